@@ -1,0 +1,4 @@
+pub mod Operations
+pub mod Programs
+pub mod Ranges
+pub mod Texts
