@@ -1,0 +1,4 @@
+pub mod Chained
+pub mod Complete
+pub mod Filling
+pub mod Marks

@@ -1,0 +1,5 @@
+pub mod Attacks
+pub mod PathLaws
+pub mod Paths
+pub mod Tables
+pub mod Texts
