@@ -1,0 +1,12 @@
+pub mod Actions
+pub mod Answers
+pub mod Edges
+pub mod Ledgers
+pub mod Mistakes
+pub mod Moves
+pub mod Orders
+pub mod Runs
+pub mod Tests
+pub mod Theorems
+pub mod Verdicts
+pub mod Worked
