@@ -5,6 +5,7 @@
 -- Attack ls s l       s is a store and l a load, and a path leads from s to l
 -- Before p q          the pair p comes first: by the store's number, then by the load's
 -- Attack-pairs ls ps  ps are all the attack pairs, nothing else, each before the next
+-- One-list            there is only one such list
 -- Listed              what listing them answers, and what the list handed in holds afterwards
 use Prim.Native.Nat.{ℕ, _<_}
 use mathlib.Core.Bool.{Bool, true, false, cond, _&&_}
@@ -90,3 +91,7 @@ pub record Listed (ls : List Line) (before : List Pair) (answer : Result ℕ Ref
   pub all : Attack-pairs ls pairs
   pub value : answer ≡ cond (leb (length pairs) (length before)) (Ok (length pairs)) (Err TooShort)
   pub list : after ≡ cond (leb (length pairs) (length before)) (pairs ++ drop (length pairs) before) before
+
+-- There is only one such list, so what is written is determined.
+abbrev pub One-list : Type 0
+One-list = (ls : List Line) (ps qs : List Pair) → Attack-pairs ls ps → Attack-pairs ls qs → ps ≡ qs

@@ -1,6 +1,6 @@
 // The attack pairs of a program: the stores and later loads of one thread that a store buffer could reorder.
 ghost use Rattle.program.specs.Programs.{lines-of};
-ghost use Rattle.attacks.specs.Attacks.{Listed};
+ghost use Rattle.attacks.specs.Attacks.{Listed, One-list};
 use program::Program;
 use refusal::Refusal;
 
@@ -28,4 +28,10 @@ pub fn attack_pairs(program: &Program, list: &mut [Pair]) -> Result<usize, Refus
     }
     listing::write_pairs(&table, list);
     Ok(count)
+}
+
+// The contract of this call, which does nothing, is a theorem: there is only one list of all attack pairs in order.
+pub fn the_pairs_are_one_list()
+    ensures { λ _. ⌜ One-list ⌝ }
+{
 }
