@@ -27,7 +27,7 @@ pub record Searched (joins : ℕ → ℕ → Bool) (start done : ℕ) (f : Found
   pub next : (k : ℕ) → k < done → (v : ℕ) → joins (getD (f .order) k 0) v ≡ true → Marked f v
 
 -- A list of `false` has `false` everywhere.
-all-false : (n v : ℕ) → getD (replicate n false) v false ≡ false
+pub all-false : (n v : ℕ) → getD (replicate n false) v false ≡ false
 all-false n v =
     elim (cases-lt v n) [
       | inl l ↦ getD-replicate n v false false l

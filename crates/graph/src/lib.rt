@@ -1,14 +1,18 @@
-// Graphs of up to 256 numbered nodes, and what a search finds in one. The search is written and proved once,
+// Graphs of up to 256 numbered nodes, and what searches find in one. Each search is written and proved once,
 // for every graph that keeps the meaning below.
 ghost use Prim.Native.Nat.{ℕ};
 ghost use mathlib.Core.Bool.{Bool};
 ghost use mathlib.Core.Path.{_≡_};
 ghost use Rattle.graph.specs.Laws.{Laws};
 
+mod ordering;
 mod search;
 #[cfg(test)]
 mod tests;
 
+pub use ordering::Written;
+pub use ordering::WrittenPartialEq;
+pub use ordering::order_or_ring;
 pub use search::reached;
 
 // A graph, by its number of nodes and by which of them an edge joins.

@@ -1,4 +1,4 @@
-// What the search finds in graphs whose answers are known.
+// What the searches find in graphs whose answers are known.
 ghost use Prim.Native.Nat.{_+_, _≤_};
 ghost use lib.Dec.{eqb};
 ghost use mathlib.Core.Bool.{_&&_, _||_};
@@ -29,6 +29,31 @@ impl Graph for Row as RowGraph {
 
     fn edge(&self, from: usize, to: usize) -> bool {
         from < self.size && to < self.size && (to == from + 1 || to == 0 && from + 1 == self.ring)
+    }
+}
+
+// Stairs, with an edge from each node to the one two below it, and from the node `up`, where there is one of that number,
+// to the one two above it.
+#[derive(Drop)]
+struct Stairs {
+    size: usize,
+    up: usize,
+    ghost few: { size ≤ 256 },
+}
+
+impl Graph for Stairs as StairsGraph {
+    ghost size = { λ stairs. stairs .size };
+
+    ghost joins = { λ stairs. among (stairs .size) (λ from to. eqb from (to + 2) || (eqb from (stairs .up) && eqb to (from + 2))) };
+
+    ghost laws = { among-laws (λ stairs. stairs .size) (λ stairs from to. eqb from (to + 2) || (eqb from (stairs .up) && eqb to (from + 2))) (λ stairs. stairs .few) };
+
+    fn nodes(&self) -> usize {
+        self.size
+    }
+
+    fn edge(&self, from: usize, to: usize) -> bool {
+        from < self.size && to < self.size && (from == to + 2 || from == self.up && to == from + 2)
     }
 }
 
@@ -125,5 +150,73 @@ fn no_pair_is_asked_twice() -> Result<(), Fail> {
     };
     check(reached(&heard, 1)[1])?;
     check(heard.listener.pairs.get()[8 + 7])?;
+    check(!heard.listener.twice.get())
+}
+
+#[test]
+fn an_empty_graph_has_an_empty_order() -> Result<(), Fail> {
+    let mut list = [7; 2];
+    check(order_or_ring(&Row { size: 0, ring: 0 }, &mut list) == Some(Written::Order(0)))?;
+    check(list == [7; 2])
+}
+
+#[test]
+fn a_list_that_is_too_short_is_refused() -> Result<(), Fail> {
+    let mut list = [7; 2];
+    check(order_or_ring(&Row { size: 3, ring: 3 }, &mut list) == None)?;
+    check(list == [7; 2])
+}
+
+#[test]
+fn a_path_is_its_own_order() -> Result<(), Fail> {
+    let mut list = [7; 257];
+    check(order_or_ring(&Row { size: 256, ring: 0 }, &mut list) == Some(Written::Order(256)))?;
+    for node in 0..256 {
+        check(list[node] == node)?;
+    }
+    check(list[256] == 7)
+}
+
+#[test]
+fn the_lowest_ready_node_comes_first() -> Result<(), Fail> {
+    let mut list = [7; 6];
+    check(order_or_ring(&Stairs { size: 5, up: 5 }, &mut list) == Some(Written::Order(5)))?;
+    check(list == [3, 1, 4, 2, 0, 7])
+}
+
+#[test]
+fn a_ring_starts_at_its_lowest_node() -> Result<(), Fail> {
+    let mut list = [7; 5];
+    check(order_or_ring(&Row { size: 5, ring: 3 }, &mut list) == Some(Written::Ring(3)))?;
+    check(list == [0, 1, 2, 7, 7])
+}
+
+// The lowest node waits for the ring and is not on it.
+#[test]
+fn a_ring_may_lie_behind_other_nodes() -> Result<(), Fail> {
+    let mut list = [7; 5];
+    check(order_or_ring(&Stairs { size: 5, up: 2 }, &mut list) == Some(Written::Ring(2)))?;
+    check(list == [2, 4, 7, 7, 7])
+}
+
+#[test]
+fn a_node_joined_to_itself_is_a_ring() -> Result<(), Fail> {
+    let mut list = [7; 1];
+    check(order_or_ring(&Row { size: 1, ring: 1 }, &mut list) == Some(Written::Ring(1)))?;
+    check(list == [0])
+}
+
+#[test]
+fn an_order_asks_no_pair_twice() -> Result<(), Fail> {
+    let heard = Heard {
+        graph: Row { size: 8, ring: 0 },
+        listener: Asked {
+            pairs: Cell::new([false; 64]),
+            twice: Cell::new(false),
+        },
+    };
+    let mut list = [0; 8];
+    check(order_or_ring(&heard, &mut list) == Some(Written::Order(8)))?;
+    check(heard.listener.pairs.get() == [true; 64])?;
     check(!heard.listener.twice.get())
 }
