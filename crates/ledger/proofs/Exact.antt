@@ -104,7 +104,7 @@ next-in-other (x ∷ y ∷ names) a once so =
 no-store-loads : (c d : ℕ) (source : Source) → stores c ≡ loads d source → ⊥
 no-store-loads c d source is = let z : _≡_ {A = ℕ} 0 1 = cc in omega (arith, z)
 
-self-edge : (ls : List Line) (l : Ledger) → Sound ls l → (a : Name) → edge (trace-of l) a a ≡ true → ⊥
+pub self-edge : (ls : List Line) (l : Ledger) → Sound ls l → (a : Name) → edge (trace-of l) a a ≡ true → ⊥
 self-edge ls l sound a joined = go (edge-parts (trace-of l) a a joined .sort) (edge-parts (trace-of l) a a joined .first)
   where
     go : Sort (trace-of l) a a → Exists (l .actions) a → ⊥

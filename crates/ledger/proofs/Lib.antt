@@ -5,7 +5,9 @@ pub mod Draining
 pub mod Exact
 pub mod Forward
 pub mod Growing
+pub mod Judging
 pub mod Locals
+pub mod Numbered
 pub mod Ordered
 pub mod Passing
 pub mod Ranks

@@ -51,7 +51,7 @@ unfolding early-moves
 early-accepted = (refl, (refl, (refl, tt)))
 
 -- A ring that is there leaves no run.
-shows : (ls : List Line) (x : Trace) (names : List Name) → Lists-ring x names → Shows-ring ls x names
+pub shows : (ls : List Line) (x : Trace) (names : List Name) → Lists-ring x names → Shows-ring ls x names
 shows ls x [] ring = absurd ring
 shows ls x (a ∷ []) ring = absurd ring
 shows ls x (a ∷ b ∷ names) ring = record { no-run = λ run. run-gives-no-ring ls x run (a ∷ b ∷ names) (ring .0); ring = ring }

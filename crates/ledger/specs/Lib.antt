@@ -1,9 +1,11 @@
 pub mod Actions
 pub mod Answers
 pub mod Edges
+pub mod Judged
 pub mod Ledgers
 pub mod Mistakes
 pub mod Moves
+pub mod Nodes
 pub mod Orders
 pub mod Runs
 pub mod Tests

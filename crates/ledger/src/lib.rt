@@ -8,6 +8,7 @@ pub use moves::MoveDebug;
 pub use moves::MovePartialEq;
 pub use theorems::a_run_exactly_without_a_ring;
 pub use theorems::a_run_gives_no_ring;
+pub use theorems::a_search_judges_truly;
 pub use theorems::an_order_gives_a_run;
 pub use theorems::no_edge_to_itself;
 pub use theorems::the_mistakes_turn_verdicts;

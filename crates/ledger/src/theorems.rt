@@ -1,4 +1,5 @@
 // What is proved of runs, orders and rings. Each of these calls does nothing: its contract is the theorem.
+ghost use Rattle.ledger.specs.Judged.{Judged};
 ghost use Rattle.ledger.specs.Mistakes.{Mistakes};
 ghost use Rattle.ledger.specs.Theorems.{No-edge-to-itself, Order-gives-run, Run-exactly-without-ring, Run-gives-no-ring};
 ghost use Rattle.ledger.specs.Worked.{Worked-runs};
@@ -31,4 +32,9 @@ pub fn the_worked_runs()
 // Three mistakes that look right each turn the verdict on one of them.
 pub fn the_mistakes_turn_verdicts()
     ensures { λ _. ⌜ Mistakes ⌝ }
+{}
+
+// Read through the numbering of a trace's actions, an order of the nodes makes `sequential` true, and a ring of them `violation`.
+pub fn a_search_judges_truly()
+    ensures { λ _. ⌜ Judged ⌝ }
 {}
