@@ -45,8 +45,8 @@ same-first p q ps qs up up′ alike =
     ⊎-elim
     (λ is. sym is)
     (λ later.
-      ⊎-elim (λ is. is) (λ later′. absurd (not-both p q (all-has (Before p) ps q (up .0) later′) (all-has (Before q) qs p (up′ .0) later)))
-      (has-cases p ps q (alike .back q (first-has q qs))))
+    ⊎-elim (λ is. is) (λ later′. absurd (not-both p q (all-has (Before p) ps q (up .0) later′) (all-has (Before q) qs p (up′ .0) later)))
+    (has-cases p ps q (alike .back q (first-has q qs))))
     (has-cases q qs p (alike .there p (first-has p ps)))
 
 -- And what stands behind it is alike too.

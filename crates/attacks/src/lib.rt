@@ -33,5 +33,4 @@ pub fn attack_pairs(program: &Program, list: &mut [Pair]) -> Result<usize, Refus
 // The contract of this call, which does nothing, is a theorem: there is only one list of all attack pairs in order.
 pub fn the_pairs_are_one_list()
     ensures { λ _. ⌜ One-list ⌝ }
-{
-}
+{}
