@@ -28,7 +28,7 @@ abbrev pub oldest-to : ℕ → List Store → Option ℕ
 oldest-to c [] = None
 oldest-to c (s ∷ ss) = cond (eqb (s .cell) c) (Some (s .value)) (oldest-to c ss)
 
--- the first, where the second is none
+-- the first, or the second where there is no first
 abbrev pub else-this : Option ℕ → Option ℕ → Option ℕ
 else-this None o = o
 else-this (Some v) o = Some v

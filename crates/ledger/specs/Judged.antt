@@ -1,6 +1,6 @@
 -- What the search of a graph says of a trace, read through the numbering of its actions.
--- Order-is-true     an order of the nodes, the lowest that could come next at each place, makes `sequential` true
--- Ring-is-true      a ring of the nodes makes `violation` true
+-- order-is-true     an order of the nodes, the lowest that could come next at each place, makes `sequential` true
+-- ring-is-true      a ring of the nodes makes `violation` true
 use Prim.Native.Nat.{ℕ}
 use mathlib.Core.List.{List, map}
 use lib.ListN.{length}
