@@ -1,4 +1,5 @@
 // Performs the worked runs and prints, run by run, each call with its answer.
+#![tactic(auto)]
 mod programs;
 mod runs;
 

@@ -1,4 +1,5 @@
 // Puts whole and damaged recordings together, and prints what the printing call says of each.
+#![tactic(auto)]
 
 mod cuts;
 mod fields;

@@ -1,5 +1,7 @@
 // Graphs of up to 256 numbered nodes, and what searches find in one. Each search is written and proved once,
 // for every graph that keeps the meaning below.
+#![tactic(auto)]
+
 ghost use Rattle.std.specs.Prelude.{◌≡◌, ℕ, Bool};
 ghost use Rattle.graph.specs.Laws.{Laws};
 

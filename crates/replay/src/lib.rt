@@ -1,4 +1,5 @@
 // Replays a run over any store buffer and judges it.
+#![tactic(auto)]
 mod actions;
 mod calls;
 mod happens_before;

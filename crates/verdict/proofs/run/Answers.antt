@@ -10,5 +10,5 @@ within {before = before} p =
     omega arith
 
 -- src/main.rt:22:27
-pub slice-bounds-write-all-end : goal.slice-bounds-write-all-end
-slice-bounds-write-all-end c = omega (arith, within c.in-Ok.ensures)
+pub slice_bounds-write_all-end : goal.slice_bounds-write_all-end
+slice_bounds-write_all-end c = omega (arith, within c.in-Ok.ensures)

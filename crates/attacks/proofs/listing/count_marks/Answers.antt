@@ -9,7 +9,7 @@ loop-row-preserved c =
     let table = c.args.table.now in
     let within : s < length table = omega arith in
     let left = ap length (table_left s table within) ∙ length-append (row_pairs s 0 (get_or table s [])) (table_pairs (s + 1) (drop (s + 1) table)) in
-    (omega arith, omega (arith, left, row_length s 0 0 (get_or table s []), c.count-row-count.ensures.value))
+    (omega arith, omega (arith, left, row_length s 0 0 (get_or table s []), c.count_row-count.ensures.value))
 
 pub returns : goal.returns
 returns c =

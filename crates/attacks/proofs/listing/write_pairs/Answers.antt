@@ -3,8 +3,8 @@ use Rattle.attacks.specs.Tables.{row_pairs, table_pairs}
 use Rattle.attacks.proofs.Marks.{table_left, table_left_none, written_part, written_all}
 use Rattle.attacks.proofs.listing.write_pairs.Goals as goal
 
-pub write-row-at-requires : goal.write-row-at-requires
-write-row-at-requires c =
+pub write_row-at-requires : goal.write_row-at-requires
+write_row-at-requires c =
     let s = c.loop-store.store in
     let table = c.args.table.now in
     let within : s < length table = omega arith in
@@ -16,9 +16,9 @@ loop-store-preserved c =
     let s = c.loop-store.store in
     let table = c.args.table.now in
     let within : s < length table = omega arith in
-    let wrote = c.write-row-at.ensures in
+    let wrote = c.write_row-at.ensures in
     written_part 0 c.args.list.now (table_pairs 0 table) c.loop-store.at c.loop-store.list (row_pairs s 0 (get_or table s [])) (table_pairs (s + 1) (drop (s + 1) table))
-    c.write-row-at.result c.write-row-at.new.list (rw (table_left s table within) at c.loop-store.invariant) wrote.next wrote.front wrote.rest
+    c.write_row-at.result c.write_row-at.new.list (rw (table_left s table within) at c.loop-store.invariant) wrote.next wrote.front wrote.rest
 
 pub returns : goal.returns
 returns c =

@@ -15,7 +15,7 @@ loop-node-preserved g c =
       | then-blockers-node w ↦
           subst (Moved joins size placed c.args.at (node + 1)) (sym w.blockers-is)
           (moved_set joins size placed c.args.at node _ blockers c.loop-node.invariant
-          (omega (arith, g.G.Graph.laws.few c.args.graph.now)) w.first-blocker.ensures)
+          (omega (arith, g.G.Graph.laws.few c.args.graph.now)) w.first_blocker.ensures)
       | else-blockers-node w ↦
           subst (Moved joins size placed c.args.at (node + 1)) (sym w.blockers-is)
           (moved_stay joins size placed c.args.at node blockers c.loop-node.invariant (omega arith) w.if-blockers-node.false)

@@ -15,8 +15,8 @@ bounds-found-found g c =
     let few = g.G.Graph.laws.few c.args.graph.now in
     room c.loop-to.found c.loop-to.to c.loop-to.invariant.kept (omega arith) c.if-not-found-to.true
 
-pub overflow-add-found : goal.overflow-add-found
-overflow-add-found g c = let r = bounds-found-found g c in search rules
+pub overflow_add-found : goal.overflow_add-found
+overflow_add-found g c = let r = bounds-found-found g c in search rules
 
 -- A node is put where it was not marked and an edge leads to it, and passed over where either fails.
 pub loop-to-preserved : goal.loop-to-preserved

@@ -4,11 +4,11 @@ use Rattle.graph.proofs.Reaching.{Searched, nothing_kept, searched_first, search
 use Rattle.graph.proofs.search.reached.Goals as goal
 use Rattle.graph.proofs.search.reached.Goals.{then-node-start, else-node-start}
 
-pub mark-next-requires : goal.mark-next-requires
-mark-next-requires g c = nothing_kept
+pub mark_next-requires : goal.mark_next-requires
+mark_next-requires g c = nothing_kept
 
 pub loop-done-init : goal.loop-done-init
-loop-done-init g c = searched_first _ _ _ c.mark-next.ensures.kept c.mark-next.ensures.followed
+loop-done-init g c = searched_first _ _ _ c.mark_next.ensures.kept c.mark_next.ensures.followed
 
 -- The edges out of one more node of the order are followed, unless it is `start`, whose edges were followed first.
 pub loop-done-preserved : goal.loop-done-preserved
@@ -20,7 +20,7 @@ loop-done-preserved g c =
     let inv = c.loop-done.invariant in
     elim c.if-node-start.branch [
       | then-node-start w ↦
-          let after = w.mark-next-then-node-start.ensures in
+          let after = w.mark_next-then-node-start.ensures in
           subst (Searched joins start (done + 1)) (sym w.found-is)
           (searched_next joins start done old _ inv (omega arith) after.kept after.longer after.followed)
       | else-node-start w ↦

@@ -2,5 +2,5 @@ use Rattle.std.proofs.Common.{refl}
 use Rattle.std.proofs.lemmas.Result.{err_from_is_err_and}
 use Rattle.recording.proofs.printing.print_recording.Goals as goal
 
-pub returns-in-err-text : goal.returns-in-err-text
-returns-in-err-text c = let p = err_from_is_err_and c.from-residual.result c.from-residual.ensures.1 in rw (p.1, p.2) (c.if-page-lt-PAGE.false, refl)
+pub returns-in_err-text : goal.returns-in_err-text
+returns-in_err-text c = let p = err_from_is_err_and c.from-residual.result c.from-residual.ensures.1 in rw (p.1, p.2) (c.if-page-lt-PAGE.false, refl)

@@ -9,10 +9,10 @@ pub returns-in-Ok : goal.returns-in-Ok
 returns-in-Ok c =
     let bs = c.args.recording.now in
     let v = c.in-Ok.verdict in
-    let after = c.judge-recording.new.list in
+    let after = c.judge_recording.new.list in
     record {
-      says = IfOk-weaker c.verdict_text.result _ (λ text. Says bs (string_bytes text)) (λ text is. (verdict_said bs _ after v (string_bytes text) refl c.judge-recording.auto.list c.in-Ok.ensures is).0) c.verdict_text.ensures;
-      bound = IfOk-weaker c.verdict_text.result _ (λ text. length (string_bytes text) ≤ 2048) (λ text is. (verdict_said bs _ after v (string_bytes text) refl c.judge-recording.auto.list c.in-Ok.ensures is).1) c.verdict_text.ensures;
+      says = IfOk-weaker c.verdict_text.result _ (λ text. Says bs (string_bytes text)) (λ text is. (verdict_said bs _ after v (string_bytes text) refl c.judge_recording.auto.list c.in-Ok.ensures is).0) c.verdict_text.ensures;
+      bound = IfOk-weaker c.verdict_text.result _ (λ text. length (string_bytes text) ≤ 2048) (λ text is. (verdict_said bs _ after v (string_bytes text) refl c.judge_recording.auto.list c.in-Ok.ensures is).1) c.verdict_text.ensures;
     }
 
 pub returns-in-Err-At : goal.returns-in-Err-At
@@ -20,7 +20,7 @@ returns-in-Err-At c =
     let bs = c.args.recording.now in
     let blanks : List Name = replicate 256 (record { thread = 0; position = 0 }) in
     let f = c.in-Err-At.fault in
-    let after = c.judge-recording.new.list in
+    let after = c.judge_recording.new.list in
     let index : f.place.index < 2 ^ 64 = search rules in
     let byte : f.place.byte < 2 ^ 64 = search rules in
     record {

@@ -9,70 +9,70 @@ use Rattle.recording.proofs.Adding.{reads_on}
 use Rattle.recording.proofs.Moving.{fault_read}
 use Rattle.recording.proofs.reading.judge_recording.Goals as goal
 
-pub returns-in-err-program : goal.returns-in-err-program
-returns-in-err-program c =
+pub returns-in_err-program : goal.returns-in_err-program
+returns-in_err-program c =
     let bs = c.args.recording.now in
     let list = c.args.list.now in
-    let p = err_from_is_err_and c.from-residual-in-err-program.result c.from-residual-in-err-program.ensures.1 in
+    let p = err_from_is_err_and c.from-residual-in_err-program.result c.from-residual-in_err-program.ensures.1 in
     subst (λ r. ReadAs (reading bs) (length bs) list r list) (sym (p.1 ∙ ap Err p.2)) refl
 
-pub returns-in-err-place : goal.returns-in-err-place
-returns-in-err-place c =
+pub returns-in_err-place : goal.returns-in_err-place
+returns-in_err-place c =
     let bs = c.args.recording.now in
     let list = c.args.list.now in
-    let s = c.in-ok-setup.setup in
-    let e = c.in-err-place.field-0.0 in
-    let p = err_from_is_err_and c.from-residual-in-err-place.result c.from-residual-in-err-place.ensures.1 in
-    let on = reads_on bs s (lines_of c.in-ok-program.program) c.in-ok-setup.ensures c.in-ok-program.ensures in
-    subst (λ r. ReadAs (reading bs) (length bs) list r list) (sym (p.1 ∙ ap Err p.2)) (fault_read (reading bs) (length bs) list e (subst (λ read. AtFault read e) (sym on) (c.in-err-place.ensures s)))
+    let s = c.in_ok-setup.setup in
+    let e = c.in_err-place.field-0.0 in
+    let p = err_from_is_err_and c.from-residual-in_err-place.result c.from-residual-in_err-place.ensures.1 in
+    let on = reads_on bs s (lines_of c.in_ok-program.program) c.in_ok-setup.ensures c.in_ok-program.ensures in
+    subst (λ r. ReadAs (reading bs) (length bs) list r list) (sym (p.1 ∙ ap Err p.2)) (fault_read (reading bs) (length bs) list e (subst (λ read. AtFault read e) (sym on) (c.in_err-place.ensures s)))
 
-pub returns-in-err-new : goal.returns-in-err-new
-returns-in-err-new c =
+pub returns-in_err-new : goal.returns-in_err-new
+returns-in_err-new c =
     let bs = c.args.recording.now in
     let list = c.args.list.now in
-    let p = err_from_is_err_and c.from-residual-in-err-new.result c.from-residual-in-err-new.ensures.1 in
+    let p = err_from_is_err_and c.from-residual-in_err-new.result c.from-residual-in_err-new.ensures.1 in
     subst (λ r. ReadAs (reading bs) (length bs) list r list) (sym (p.1 ∙ ap Err p.2)) refl
 
-pub returns-in-err-new-2 : goal.returns-in-err-new-2
-returns-in-err-new-2 c =
+pub returns-in_err-new-2 : goal.returns-in_err-new-2
+returns-in_err-new-2 c =
     let bs = c.args.recording.now in
     let list = c.args.list.now in
-    let p = err_from_is_err_and c.from-residual-in-err-new-2.result c.from-residual-in-err-new-2.ensures.1 in
+    let p = err_from_is_err_and c.from-residual-in_err-new-2.result c.from-residual-in_err-new-2.ensures.1 in
     subst (λ r. ReadAs (reading bs) (length bs) list r list) (sym (p.1 ∙ ap Err p.2)) refl
 
-pub returns-in-err-new-3 : goal.returns-in-err-new-3
-returns-in-err-new-3 c =
+pub returns-in_err-new-3 : goal.returns-in_err-new-3
+returns-in_err-new-3 c =
     let bs = c.args.recording.now in
     let list = c.args.list.now in
-    let p = err_from_is_err_and c.from-residual-in-err-new-3.result c.from-residual-in-err-new-3.ensures.1 in
+    let p = err_from_is_err_and c.from-residual-in_err-new-3.result c.from-residual-in_err-new-3.ensures.1 in
     subst (λ r. ReadAs (reading bs) (length bs) list r list) (sym (p.1 ∙ ap Err p.2)) refl
 
-pub returns-in-ok-new : goal.returns-in-ok-new
-returns-in-ok-new c =
+pub returns-in_ok-new : goal.returns-in_ok-new
+returns-in_ok-new c =
     let bs = c.args.recording.now in
     let list = c.args.list.now in
-    let s = c.in-ok-setup.setup in
-    let on = reads_on bs s (lines_of c.in-ok-program.program) c.in-ok-setup.ensures c.in-ok-program.ensures in
+    let s = c.in_ok-setup.setup in
+    let on = reads_on bs s (lines_of c.in_ok-program.program) c.in_ok-setup.ensures c.in_ok-program.ensures in
     let rule : strong c.new-buffer.result.chosen direct ≡ rules_of s =
-    ap (λ chosen. strong chosen direct) (c.new-buffer.ensures.chosen ∙ c.chosen-cells-chosen.ensures) ∙ ap (λ k. strong (chosen_by s.strong) (kind_rules k)) (sym c.in-Direct.is) in
-    subst (λ read. ReadAs read (length bs) list c.replay-moves.result c.replay-moves.new.list) (sym (on ∙ c.in-ok-place.ensures.goes_on s)) (c.replay-moves.ensures s rule)
+    ap (λ chosen. strong chosen direct) (c.new-buffer.ensures.chosen ∙ c.chosen_cells-chosen.ensures) ∙ ap (λ k. strong (chosen_by s.strong) (kind_rules k)) (sym c.in-Direct.is) in
+    subst (λ read. ReadAs read (length bs) list c.replay_moves.result c.replay_moves.new.list) (sym (on ∙ c.in_ok-place.ensures.goes_on s)) (c.replay_moves.ensures s rule)
 
-pub returns-in-ok-new-2 : goal.returns-in-ok-new-2
-returns-in-ok-new-2 c =
+pub returns-in_ok-new-2 : goal.returns-in_ok-new-2
+returns-in_ok-new-2 c =
     let bs = c.args.recording.now in
     let list = c.args.list.now in
-    let s = c.in-ok-setup.setup in
-    let on = reads_on bs s (lines_of c.in-ok-program.program) c.in-ok-setup.ensures c.in-ok-program.ensures in
+    let s = c.in_ok-setup.setup in
+    let on = reads_on bs s (lines_of c.in_ok-program.program) c.in_ok-setup.ensures c.in_ok-program.ensures in
     let rule : strong c.new-buffer-in-Queue.result.chosen queue ≡ rules_of s =
-    ap (λ chosen. strong chosen queue) (c.new-buffer-in-Queue.ensures.chosen ∙ c.chosen-cells-chosen.ensures) ∙ ap (λ k. strong (chosen_by s.strong) (kind_rules k)) (sym c.in-Queue.is) in
-    subst (λ read. ReadAs read (length bs) list c.replay-moves-in-Queue.result c.replay-moves-in-Queue.new.list) (sym (on ∙ c.in-ok-place.ensures.goes_on s)) (c.replay-moves-in-Queue.ensures s rule)
+    ap (λ chosen. strong chosen queue) (c.new-buffer-in-Queue.ensures.chosen ∙ c.chosen_cells-chosen.ensures) ∙ ap (λ k. strong (chosen_by s.strong) (kind_rules k)) (sym c.in-Queue.is) in
+    subst (λ read. ReadAs read (length bs) list c.replay_moves-in-Queue.result c.replay_moves-in-Queue.new.list) (sym (on ∙ c.in_ok-place.ensures.goes_on s)) (c.replay_moves-in-Queue.ensures s rule)
 
-pub returns-in-ok-new-3 : goal.returns-in-ok-new-3
-returns-in-ok-new-3 c =
+pub returns-in_ok-new-3 : goal.returns-in_ok-new-3
+returns-in_ok-new-3 c =
     let bs = c.args.recording.now in
     let list = c.args.list.now in
-    let s = c.in-ok-setup.setup in
-    let on = reads_on bs s (lines_of c.in-ok-program.program) c.in-ok-setup.ensures c.in-ok-program.ensures in
+    let s = c.in_ok-setup.setup in
+    let on = reads_on bs s (lines_of c.in_ok-program.program) c.in_ok-setup.ensures c.in_ok-program.ensures in
     let rule : strong c.new-buffer-in-PerCell.result.chosen per_cell ≡ rules_of s =
-    ap (λ chosen. strong chosen per_cell) (c.new-buffer-in-PerCell.ensures.chosen ∙ c.chosen-cells-chosen.ensures) ∙ ap (λ k. strong (chosen_by s.strong) (kind_rules k)) (sym c.in-PerCell.is) in
-    subst (λ read. ReadAs read (length bs) list c.replay-moves-in-PerCell.result c.replay-moves-in-PerCell.new.list) (sym (on ∙ c.in-ok-place.ensures.goes_on s)) (c.replay-moves-in-PerCell.ensures s rule)
+    ap (λ chosen. strong chosen per_cell) (c.new-buffer-in-PerCell.ensures.chosen ∙ c.chosen_cells-chosen.ensures) ∙ ap (λ k. strong (chosen_by s.strong) (kind_rules k)) (sym c.in-PerCell.is) in
+    subst (λ read. ReadAs read (length bs) list c.replay_moves-in-PerCell.result c.replay_moves-in-PerCell.new.list) (sym (on ∙ c.in_ok-place.ensures.goes_on s)) (c.replay_moves-in-PerCell.ensures s rule)

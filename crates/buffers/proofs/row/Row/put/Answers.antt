@@ -2,5 +2,5 @@ use Rattle.std.proofs.Common.{rules}
 use Rattle.buffers.specs.Stores.{ranged_push}
 use Rattle.buffers.proofs.row.Row.put.Goals as goal
 
-pub invariant-of-self : goal.invariant-of-self
-invariant-of-self c = (search rules, (search rules, (search (rules, ranged_push), tt)))
+pub invariant_of-self : goal.invariant_of-self
+invariant_of-self c = (search rules, (search rules, (search (rules, ranged_push), tt)))

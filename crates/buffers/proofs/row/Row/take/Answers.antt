@@ -4,24 +4,24 @@ use Rattle.buffers.specs.Rows.{stores_of}
 use Rattle.buffers.specs.Stores.{placed_at, ranged_without, unplaced}
 use Rattle.buffers.proofs.row.Row.take.Goals as goal
 
-pub returns-in-err-place : goal.returns-in-err-place
-returns-in-err-place c =
-    let none = unplaced 0 c.args.cell (stores_of c.args.self.now) (sym c.place.ensures ∙ c.in-err-place.was) in
+pub returns-in_err-place : goal.returns-in_err-place
+returns-in_err-place c =
+    let none = unplaced 0 c.args.cell (stores_of c.args.self.now) (sym c.place.ensures ∙ c.in_err-place.was) in
     record { value = c.from-residual.ensures ∙ sym none.0; stores = sym none.1 }
 
 pub remove-store-requires : goal.remove-store-requires
 remove-store-requires c =
-    let at = placed_at c.args.cell (stores_of c.args.self.now) c.in-ok-place.place (sym c.place.ensures ∙ c.in-ok-place.was) in
+    let at = placed_at c.args.cell (stores_of c.args.self.now) c.in_ok-place.place (sym c.place.ensures ∙ c.in_ok-place.was) in
     omega (arith, at.0, c.args.self.now.stores.ok.0)
 
-pub invariant-of-self : goal.invariant-of-self
-invariant-of-self c =
-    let at = placed_at c.args.cell (stores_of c.args.self.now) c.in-ok-place.place (sym c.place.ensures ∙ c.in-ok-place.was) in
+pub invariant_of-self : goal.invariant_of-self
+invariant_of-self c =
+    let at = placed_at c.args.cell (stores_of c.args.self.now) c.in_ok-place.place (sym c.place.ensures ∙ c.in_ok-place.was) in
     (search rules, (search rules, (subst (λ ss. stores_in_range ss ≡ true) (at.2 ∙ sym c.remove-store.ensures.items) (ranged_without c.args.cell (stores_of c.args.self.now) c.args.self.now.ranged), tt)))
 
 pub returns : goal.returns
 returns c =
-    let at = placed_at c.args.cell (stores_of c.args.self.now) c.in-ok-place.place (sym c.place.ensures ∙ c.in-ok-place.was) in
+    let at = placed_at c.args.cell (stores_of c.args.self.now) c.in_ok-place.place (sym c.place.ensures ∙ c.in_ok-place.was) in
     record {
       value = ap (λ s. Some s.value) c.remove-store.ensures.value ∙ sym (at.1 c.remove-store.result);
       stores = c.remove-store.ensures.items ∙ sym at.2;

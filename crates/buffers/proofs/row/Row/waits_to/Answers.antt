@@ -4,4 +4,4 @@ use Rattle.buffers.specs.Stores.{place_waits}
 use Rattle.buffers.proofs.row.Row.waits_to.Goals as goal
 
 pub returns : goal.returns
-returns c = c.is-some.ensures ∙ ap is_some c.place.ensures ∙ place_waits 0 c.args.cell (stores_of c.args.self.now)
+returns c = c.is_some.ensures ∙ ap is_some c.place.ensures ∙ place_waits 0 c.args.cell (stores_of c.args.self.now)

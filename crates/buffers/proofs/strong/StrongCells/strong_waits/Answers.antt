@@ -3,12 +3,12 @@ use Rattle.std.proofs.lemmas.Bool.{both_ways}
 use Rattle.buffers.specs.Lists.{list_of, waits_to}
 use Rattle.buffers.specs.Chosen.{chosen_found, chosen_none, newest_waits}
 use Rattle.buffers.proofs.strong.StrongCells.strong_waits.Goals as goal
-use Rattle.buffers.proofs.strong.StrongCells.strong_waits.Goals.{else-self-cell-via-then-self-cell+else-is-some, else-self-cell-via-else-self-cell}
+use Rattle.buffers.proofs.strong.StrongCells.strong_waits.Goals.{else-self-cell-via-then-self-cell+else-is_some, else-self-cell-via-else-self-cell}
 
-pub returns-then-is-some : goal.returns-then-is-some
-returns-then-is-some g c =
+pub returns-then-is_some : goal.returns-then-is_some
+returns-then-is_some g c =
     let ss = list_of (g.B.StoreBuffer.lists c.args.self.now.below) c.args.thread in
-    let waits : waits_to c.loop-cell.cell ss ≡ true = sym (newest_waits c.loop-cell.cell ss) ∙ sym (ap is_some c.newest.ensures) ∙ sym c.if-is-some.ensures in
+    let waits : waits_to c.loop-cell.cell ss ≡ true = sym (newest_waits c.loop-cell.cell ss) ∙ sym (ap is_some c.newest.ensures) ∙ sym c.if-is_some.ensures in
     sym (chosen_found c.args.self.now.chosen c.loop-cell.cell ss c.if-self-cell.true waits)
 
 pub loop-cell-preserved : goal.loop-cell-preserved
@@ -17,7 +17,7 @@ loop-cell-preserved g c =
     let chosen = c.args.self.now.chosen in
     below_more (λ k. get_or chosen k false ≡ true → waits_to k ss ≡ false) c.loop-cell.cell c.loop-cell.invariant
     (elim c.else-self-cell.branch [
-      | else-self-cell-via-then-self-cell+else-is-some w ↦ λ strong. sym (newest_waits c.loop-cell.cell ss) ∙ sym (ap is_some w.newest.ensures) ∙ sym w.if-is-some.ensures
+      | else-self-cell-via-then-self-cell+else-is_some w ↦ λ strong. sym (newest_waits c.loop-cell.cell ss) ∙ sym (ap is_some w.newest.ensures) ∙ sym w.if-is_some.ensures
       | else-self-cell-via-else-self-cell w ↦ λ strong. absurd (both_ways (get_or chosen c.loop-cell.cell false) w.if-self-cell.false strong)
     ])
 

@@ -12,8 +12,8 @@ bounds-self-self c =
     let counted = run_counted (names_in c.args.self.now) c.loop-position.self c.args.thread c.loop-position.position c.loop-position.invariant in
     omega (arith, counted)
 
-pub invariant-of-self : goal.invariant-of-self
-invariant-of-self c =
+pub invariant_of-self : goal.invariant_of-self
+invariant_of-self c =
     let n = c.loop-position.self in
     let counted = run_counted (names_in c.args.self.now) n c.args.thread c.loop-position.position c.loop-position.invariant in
     (length-set n.names n.count (record { thread = c.args.thread; position = c.loop-position.position }) ∙ n.many, (omega (arith, counted), tt))

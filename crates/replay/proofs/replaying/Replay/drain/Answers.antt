@@ -7,17 +7,17 @@ use Rattle.replay.proofs.replaying.Replay.drain.Goals as goal
 pub drained-requires : goal.drained-requires
 drained-requires g c =
     let own = present_of c.args.self.now.state in
-    let is : oldest_left 0 c.args.cell (own.noted c.args.thread) ≡ Some c.in-ok-position.position = sym c.oldest_left.ensures ∙ c.in-ok-position.ensures.ok-part in
+    let is : oldest_left 0 c.args.cell (own.noted c.args.thread) ≡ Some c.in_ok-position.position = sym c.oldest_left.ensures ∙ c.in_ok-position.ensures.ok-part in
     record {
       cell = omega arith;
       thread = omega arith;
-      there = omega (arith, oldest_within 0 c.args.cell (own.noted c.args.thread) c.in-ok-position.position is);
+      there = omega (arith, oldest_within 0 c.args.cell (own.noted c.args.thread) c.in_ok-position.position is);
     }
 
-pub invariant-of-self-2 : goal.invariant-of-self-2
-invariant-of-self-2 g c =
+pub invariant_of-self-2 : goal.invariant_of-self-2
+invariant_of-self-2 g c =
     let own = present_of c.args.self.now.state in (
       subst (λ (next : Present). how_many_in next ≤ 256) (sym c.drained.ensures)
-          (subst (λ n. n ≤ 256) (sym (few_drained own c.args.thread c.args.cell c.in-ok-value.value c.in-ok-position.position)) c.args.self.now.few),
+          (subst (λ n. n ≤ 256) (sym (few_drained own c.args.thread c.args.cell c.in_ok-value.value c.in_ok-position.position)) c.args.self.now.few),
       tt,
     )

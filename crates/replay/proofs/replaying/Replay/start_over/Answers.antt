@@ -2,5 +2,5 @@ use Rattle.std.proofs.Common.{◌≤◌, sym, subst, arith}
 use Rattle.present.specs.Data.{Present, how_many_in}
 use Rattle.replay.proofs.replaying.Replay.start_over.Goals as goal
 
-pub invariant-of-self : goal.invariant-of-self
-invariant-of-self g c = (subst (λ (own : Present). how_many_in own ≤ 256) (sym c.clear-2.ensures) (omega arith), tt)
+pub invariant_of-self : goal.invariant_of-self
+invariant_of-self g c = (subst (λ (own : Present). how_many_in own ≤ 256) (sym c.clear-2.ensures) (omega arith), tt)

@@ -13,8 +13,8 @@ loop-thread-preserved c =
     let here = ap length (viewed noted_in threads i c.thread-item.result [] c.loop-thread-test.true c.thread-item.is) in
     (omega (arith, more, here, c.loop-thread.invariant.0, c.len-count.ensures.value), omega (arith, c.loop-thread.invariant.1, c.len-count.ensures.bound))
 
-pub overflow-add-count : goal.overflow-add-count
-overflow-add-count c = omega (arith, c.loop-thread.invariant.1, c.len-count.ensures.bound, c.loop-thread-test.true, c.deref-thread-items.ensures.len, c.args.self.now.eight)
+pub overflow_add-count : goal.overflow_add-count
+overflow_add-count c = omega (arith, c.loop-thread.invariant.1, c.len-count.ensures.bound, c.loop-thread-test.true, c.deref-thread-items.ensures.len, c.args.self.now.eight)
 
 pub returns : goal.returns
 returns c =

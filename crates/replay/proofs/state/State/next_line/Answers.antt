@@ -11,7 +11,7 @@ pub returns-then-line-label : goal.returns-then-line-label
 returns-then-line-label c =
     let state = c.args.self.now in
     let t = c.args.thread in
-    let line = c.in-ok-line.line in
+    let line = c.in_ok-line.line in
     let is : c.line.result ≡ Some line = grind arith in
     let label = c.label.ensures ∙ ap (λ l. l.label) (thread_viewed local_of state t c.index.result.now start_local c.if-thread-ge-THREADS.false c.index.ensures) in
     record {
@@ -23,7 +23,7 @@ pub returns-then-count-ge-MOST : goal.returns-then-count-ge-MOST
 returns-then-count-ge-MOST c =
     let state = c.args.self.now in
     let t = c.args.thread in
-    let line = c.in-ok-line.line in
+    let line = c.in_ok-line.line in
     let is : c.line.result ≡ Some line = grind arith in
     let label = c.label.ensures ∙ ap (λ l. l.label) (thread_viewed local_of state t c.index.result.now start_local c.if-thread-ge-THREADS.false c.index.ensures) in
     record {
@@ -35,7 +35,7 @@ pub returns : goal.returns
 returns c =
     let state = c.args.self.now in
     let t = c.args.thread in
-    let line = c.in-ok-line.line in
+    let line = c.in_ok-line.line in
     let is : c.line.result ≡ Some line = grind arith in
     let label = c.label.ensures ∙ ap (λ l. l.label) (thread_viewed local_of state t c.index.result.now start_local c.if-thread-ge-THREADS.false c.index.ensures) in
     record {

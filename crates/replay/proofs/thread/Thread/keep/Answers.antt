@@ -3,16 +3,16 @@ use Rattle.std.proofs.lemmas.List.{length-map, map_push}
 use Rattle.replay.specs.Views.{noted_of}
 use Rattle.replay.proofs.thread.Thread.keep.Goals as goal
 
-pub push-reserved-requires : goal.push-reserved-requires
-push-reserved-requires c =
+pub push_reserved-requires : goal.push_reserved-requires
+push_reserved-requires c =
     let thread = c.args.self.now in
     omega (arith, c.requires, length-map (vec_items thread.actions) noted_of, thread.actions.ok.0, thread.room)
 
-pub invariant-of-self : goal.invariant-of-self
-invariant-of-self c =
+pub invariant_of-self : goal.invariant_of-self
+invariant_of-self c =
     let thread = c.args.self.now in
-    (thread.eight, (omega (arith, c.push-reserved.ensures.capacity, thread.room), (omega (arith, c.push-reserved.ensures.len, c.requires, length-map (vec_items thread.actions) noted_of, thread.actions.ok.0), tt)))
+    (thread.eight, (omega (arith, c.push_reserved.ensures.capacity, thread.room), (omega (arith, c.push_reserved.ensures.len, c.requires, length-map (vec_items thread.actions) noted_of, thread.actions.ok.0), tt)))
 
 pub returns : goal.returns
 returns c =
-    record { local = refl; noted = ap (map noted_of) c.push-reserved.ensures.items ∙ map_push noted_of (vec_items c.args.self.now.actions) c.args.action }
+    record { local = refl; noted = ap (map noted_of) c.push_reserved.ensures.items ∙ map_push noted_of (vec_items c.args.self.now.actions) c.args.action }

@@ -5,7 +5,7 @@ use Rattle.present.specs.Data.{youngest_left}
 use Rattle.replay.specs.Views.{noted_of}
 use Rattle.replay.proofs.Keeping.{blank, youngest-done, youngest-step}
 use Rattle.replay.proofs.thread.Thread.youngest_left.Goals as goal
-use Rattle.replay.proofs.thread.Thread.youngest_left.Goals.{then-left-waiting, else-left-waiting}
+use Rattle.replay.proofs.thread.Thread.youngest_left.Goals.{then-left_waiting, else-left_waiting}
 
 pub loop-position-init : goal.loop-position-init
 loop-position-init c = else_none (youngest_left 0 c.args.cell (map noted_of c.deref-action-items.result.now))
@@ -16,14 +16,14 @@ loop-position-preserved c =
     let i = c.loop-position.position in
     let cell = c.args.cell in
     let so_far = c.loop-position.youngest in
-    elim c.if-left-waiting.branch [
-      | then-left-waiting w ↦
+    elim c.if-left_waiting.branch [
+      | then-left_waiting w ↦
           ap (else_this (youngest_left (i + 1) cell (drop (i + 1) (map noted_of xs)))) w.youngest-is
-          ∙ youngest-step cell xs i blank true so_far c.loop-position-test.true (sym c.left_waiting.ensures ∙ w.if-left-waiting.true)
+          ∙ youngest-step cell xs i blank true so_far c.loop-position-test.true (sym c.left_waiting.ensures ∙ w.if-left_waiting.true)
           ∙ c.loop-position.invariant
-      | else-left-waiting w ↦
+      | else-left_waiting w ↦
           ap (else_this (youngest_left (i + 1) cell (drop (i + 1) (map noted_of xs)))) w.youngest-is
-          ∙ youngest-step cell xs i blank false so_far c.loop-position-test.true (sym c.left_waiting.ensures ∙ w.if-left-waiting.false)
+          ∙ youngest-step cell xs i blank false so_far c.loop-position-test.true (sym c.left_waiting.ensures ∙ w.if-left_waiting.false)
           ∙ c.loop-position.invariant
     ]
 
