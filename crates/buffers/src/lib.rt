@@ -1,5 +1,6 @@
 // Store buffers: what every kind means, and the four kinds.
 #![tactic(auto)]
+
 mod disciplines;
 mod held;
 mod meaning;

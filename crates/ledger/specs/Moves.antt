@@ -9,7 +9,7 @@
 -- ledger_of           what a list of moves comes to
 use Rattle.std.specs.Prelude.{ℕ, Bool, cond, List, [], ◌∷◌, ◌++◌, length, Some, None, Option, ◌==◌}
 use Rattle.std.specs.List.{slice_get}
-use Rattle.program.specs.Operations.{result}
+use Rattle.program.specs.Operations.{result_of}
 use Rattle.program.specs.declared.forms.Instruction.{Instruction}
 use Rattle.program.specs.declared.forms.Instruction.TheVariants.{Load, Store, Fence, Compute, Assert}
 use Rattle.program.specs.declared.lines.Line.{Line}
@@ -71,7 +71,7 @@ abbrev pub act : (ℕ → ℕ) → ℕ → Instruction → Read → Action
 act rs n (Load register address) found = record { line = n; value = found.value; access = loads (operand rs address) found.source }
 act rs n (Store address value) found = record { line = n; value = operand rs value; access = stores (operand rs address) }
 act rs n Fence found = record { line = n; value = 0; access = none }
-act rs n (Compute register operation a b) found = record { line = n; value = result operation (operand rs a) (operand rs b); access = none }
+act rs n (Compute register operation a b) found = record { line = n; value = result_of operation (operand rs a) (operand rs b); access = none }
 act rs n (Assert condition) found = record { line = n; value = operand rs condition; access = none }
 
 -- a load and a compute write their value into their register

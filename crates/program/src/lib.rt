@@ -1,6 +1,7 @@
 // Programs of up to eight threads that share memory cells: what an instruction is, and a list of them in which no
 // field is out of range.
 #![tactic(auto)]
+
 mod forms;
 mod lines;
 mod operations;

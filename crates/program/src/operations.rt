@@ -1,6 +1,6 @@
 // The six operations on 32-bit numbers.
 ghost use Rattle.std.specs.Prelude.{◌≡◌};
-ghost use Rattle.program.specs.Operations.{result};
+ghost use Rattle.program.specs.Operations.{result_of};
 
 #[derive(Clone, Copy, PartialEq, Eq, Debug)]
 pub enum Operation {
@@ -15,7 +15,7 @@ pub enum Operation {
 impl Operation {
     // What the operation makes of two numbers.
     pub fn apply(self, a: u32, b: u32) -> u32
-        ensures* { λ r. ⌜ r ≡ result self a b ⌝ }
+        ensures { result ≡ result_of self a b }
     {
         match self {
             Operation::Sum => a.wrapping_add(b),

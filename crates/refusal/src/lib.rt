@@ -1,6 +1,7 @@
 // Why a call is refused. Every layer above names its refusals by these cases, and a reader of a printed
 // refusal finds its number and its layer here.
 #![tactic(auto)]
+
 ghost use Rattle.std.specs.Prelude.{◌≡◌};
 ghost use Rattle.refusal.specs.Refusals.{number_of, layer_of};
 

@@ -3,7 +3,7 @@ use Rattle.program.specs.Programs.{lines_of}
 use Rattle.recording.specs.Steps.{Peeked}
 use Rattle.recording.specs.declared.faults.Place.{Place}
 use Rattle.recording.specs.declared.records.Record.TheVariants.{Instruction}
-use Rattle.recording.proofs.Adding.{AddingOn, adding-more, adding_none}
+use Rattle.recording.proofs.Adding.{AddingOn, adding_more, adding_none}
 use Rattle.recording.proofs.reading.add_instructions.Goals as goal
 
 pub loop-found-init : goal.loop-found-init
@@ -17,5 +17,5 @@ loop-found-preserved c =
     let place = c.loop-found.place in
     let f = c.in-Instruction.fields in
     let here : Peeked bs place (Ok (Some (Instruction f))) = subst (λ o. Peeked bs place (Ok o)) (c.in-Some.is ∙ ap Some c.in-Instruction.is) c.in_ok-found.ensures in
-    let more = adding-more bs c.args.start before place (lines_of c.loop-found.program) c.loop-found.invariant f after here c.in_default-add_line.ensures in
+    let more = adding_more bs c.args.start before place (lines_of c.loop-found.program) c.loop-found.invariant f after here c.in_default-add_line.ensures in
     subst (λ (next : Place). AddingOn bs c.args.start before next after) (sym c.past-place.ensures) more

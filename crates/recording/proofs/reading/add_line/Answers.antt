@@ -12,7 +12,7 @@ returns-in_err-add c =
     let after = lines_of c.add.new.self in
     let line : line_at c.args.fields ≡ Some c.in-Some.line = sym c.line.ensures ∙ c.in-Some.is in
     let so = c.in_err-add.ensures in
-    let p = err_from_is_err_and c.from-residual.result c.from-residual.ensures.1 in
+    let p = err_from_is_err_and c.from_residual.result c.from_residual.ensures.1 in
     subst (λ r. LineAdded before c.args.fields r after) (sym (p.1 ∙ ap Err p.2))
     (ap (line_tested before) line ∙ not_taken before after c.in-Some.line c.in_err-add.field-0.0 so, so.lines)
 

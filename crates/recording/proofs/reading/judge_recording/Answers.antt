@@ -13,7 +13,7 @@ pub returns-in_err-program : goal.returns-in_err-program
 returns-in_err-program c =
     let bs = c.args.recording.now in
     let list = c.args.list.now in
-    let p = err_from_is_err_and c.from-residual-in_err-program.result c.from-residual-in_err-program.ensures.1 in
+    let p = err_from_is_err_and c.from_residual-in_err-program.result c.from_residual-in_err-program.ensures.1 in
     subst (λ r. ReadAs (reading bs) (length bs) list r list) (sym (p.1 ∙ ap Err p.2)) refl
 
 pub returns-in_err-place : goal.returns-in_err-place
@@ -22,7 +22,7 @@ returns-in_err-place c =
     let list = c.args.list.now in
     let s = c.in_ok-setup.setup in
     let e = c.in_err-place.field-0.0 in
-    let p = err_from_is_err_and c.from-residual-in_err-place.result c.from-residual-in_err-place.ensures.1 in
+    let p = err_from_is_err_and c.from_residual-in_err-place.result c.from_residual-in_err-place.ensures.1 in
     let on = reads_on bs s (lines_of c.in_ok-program.program) c.in_ok-setup.ensures c.in_ok-program.ensures in
     subst (λ r. ReadAs (reading bs) (length bs) list r list) (sym (p.1 ∙ ap Err p.2)) (fault_read (reading bs) (length bs) list e (subst (λ read. AtFault read e) (sym on) (c.in_err-place.ensures s)))
 
@@ -30,21 +30,21 @@ pub returns-in_err-new : goal.returns-in_err-new
 returns-in_err-new c =
     let bs = c.args.recording.now in
     let list = c.args.list.now in
-    let p = err_from_is_err_and c.from-residual-in_err-new.result c.from-residual-in_err-new.ensures.1 in
+    let p = err_from_is_err_and c.from_residual-in_err-new.result c.from_residual-in_err-new.ensures.1 in
     subst (λ r. ReadAs (reading bs) (length bs) list r list) (sym (p.1 ∙ ap Err p.2)) refl
 
 pub returns-in_err-new-2 : goal.returns-in_err-new-2
 returns-in_err-new-2 c =
     let bs = c.args.recording.now in
     let list = c.args.list.now in
-    let p = err_from_is_err_and c.from-residual-in_err-new-2.result c.from-residual-in_err-new-2.ensures.1 in
+    let p = err_from_is_err_and c.from_residual-in_err-new-2.result c.from_residual-in_err-new-2.ensures.1 in
     subst (λ r. ReadAs (reading bs) (length bs) list r list) (sym (p.1 ∙ ap Err p.2)) refl
 
 pub returns-in_err-new-3 : goal.returns-in_err-new-3
 returns-in_err-new-3 c =
     let bs = c.args.recording.now in
     let list = c.args.list.now in
-    let p = err_from_is_err_and c.from-residual-in_err-new-3.result c.from-residual-in_err-new-3.ensures.1 in
+    let p = err_from_is_err_and c.from_residual-in_err-new-3.result c.from_residual-in_err-new-3.ensures.1 in
     subst (λ r. ReadAs (reading bs) (length bs) list r list) (sym (p.1 ∙ ap Err p.2)) refl
 
 pub returns-in_ok-new : goal.returns-in_ok-new

@@ -11,7 +11,7 @@ use Rattle.recording.specs.Steps.{Peeked, moving_from}
 use Rattle.recording.specs.Verdicts.{ReadAs, WrittenAs, fault_at}
 use Rattle.recording.specs.declared.faults.Failure.TheVariants.{At}
 use Rattle.recording.specs.declared.faults.Place.{Place}
-use Rattle.recording.proofs.Moving.{Going, fault_read, going-astray, going-cut, going-judged, going_more, going_none, going-refused, going-unjudged}
+use Rattle.recording.proofs.Moving.{Going, fault_read, going_astray, going_cut, going_judged, going_more, going_none, going_refused, going_unjudged}
 use Rattle.recording.proofs.reading.replay_moves.Goals as goal
 
 pub loop-replay-init : goal.loop-replay-init
@@ -25,7 +25,7 @@ pub returns-in_err-replay : goal.returns-in_err-replay
 returns-in_err-replay g c s rule =
     let bs = c.args.recording.now in
     let list = c.args.list.now in
-    let p = err_from_is_err_and c.from-residual.result c.from-residual.ensures.1 in
+    let p = err_from_is_err_and c.from_residual.result c.from_residual.ensures.1 in
     subst (λ r. ReadAs (moving_from bs c.args.start (lines_of c.args.program) [] s) (length bs) list r list) (sym (p.1 ∙ ap Err p.2)) refl
 
 pub returns-in_err-found : goal.returns-in_err-found
@@ -38,9 +38,9 @@ returns-in_err-found g c s rule =
     let list = c.args.list.now in
     let h = held (g.B.StoreBuffer.lists c.loop-replay.replay.buffer) c.loop-replay.replay.state in
     let e = c.in_err-found.field-0.0 in
-    let p = err_from_is_err_and c.from-residual-in_err-found.result c.from-residual-in_err-found.ensures.1 in
-    let cut = going-cut rules lawful ls bs c.args.start c.loop-replay.place h c.loop-replay.invariant.0 e c.in_err-found.ensures s (c.in_ok-replay.ensures.rules ∙ rule) in
-    subst (λ (lines : List Line). ReadAs (moving_from bs c.args.start lines [] s) (length bs) list c.from-residual-in_err-found.result list) c.in_ok-replay.ensures.program
+    let p = err_from_is_err_and c.from_residual-in_err-found.result c.from_residual-in_err-found.ensures.1 in
+    let cut = going_cut rules lawful ls bs c.args.start c.loop-replay.place h c.loop-replay.invariant.0 e c.in_err-found.ensures s (c.in_ok-replay.ensures.rules ∙ rule) in
+    subst (λ (lines : List Line). ReadAs (moving_from bs c.args.start lines [] s) (length bs) list c.from_residual-in_err-found.result list) c.in_ok-replay.ensures.program
     (subst (λ r. ReadAs (moving_from bs c.args.start ls [] s) (length bs) list r list) (sym (p.1 ∙ ap Err p.2)) (fault_read (moving_from bs c.args.start ls [] s) (length bs) list e cut))
 
 pub returns-in_default-as_move : goal.returns-in_default-as_move
@@ -54,7 +54,7 @@ returns-in_default-as_move g c s rule =
     let place = c.loop-replay.place in
     let h = held (g.B.StoreBuffer.lists c.loop-replay.replay.buffer) c.loop-replay.replay.state in
     let here : Peeked bs place (Ok (Some c.in-Some.found)) = subst (λ o. Peeked bs place (Ok o)) c.in-Some.is c.in_ok-found.ensures in
-    let astray = going-astray rules lawful ls bs c.args.start place h c.loop-replay.invariant.0 c.in-Some.found here (sym c.as_move.ensures ∙ c.in_default-as_move.is) s (c.in_ok-replay.ensures.rules ∙ rule) in
+    let astray = going_astray rules lawful ls bs c.args.start place h c.loop-replay.invariant.0 c.in-Some.found here (sym c.as_move.ensures ∙ c.in_default-as_move.is) s (c.in_ok-replay.ensures.rules ∙ rule) in
     subst (λ (lines : List Line). ReadAs (moving_from bs c.args.start lines [] s) (length bs) list (Err c.refused.result) list) c.in_ok-replay.ensures.program
     (subst (λ e. ReadAs (moving_from bs c.args.start ls [] s) (length bs) list (Err e) list) (sym c.refused.ensures) (fault_read (moving_from bs c.args.start ls [] s) (length bs) list (At (fault_at RecordOutOfPlace place.index place.byte)) astray))
 
@@ -75,7 +75,7 @@ returns-in-Err g c s rule =
     let so : Offered rules ls h m (Err e) after =
     subst (λ (r : Rules). Offered r ls h m (Err e) after) c.loop-replay.invariant.1.0
     (subst (λ (lines : List Line). Offered (g.B.StoreBuffer.rules c.loop-replay.replay.buffer) lines h m (Err e) after) c.loop-replay.invariant.1.1 c.in-Err.ensures.answer) in
-    let refused = going-refused rules lawful ls bs c.args.start place h c.loop-replay.invariant.0 c.in-Some.found m e after here (sym c.as_move.ensures ∙ c.in-Some-as_move.is) so s (c.in_ok-replay.ensures.rules ∙ rule) in
+    let refused = going_refused rules lawful ls bs c.args.start place h c.loop-replay.invariant.0 c.in-Some.found m e after here (sym c.as_move.ensures ∙ c.in-Some-as_move.is) so s (c.in_ok-replay.ensures.rules ∙ rule) in
     subst (λ (lines : List Line). ReadAs (moving_from bs c.args.start lines [] s) (length bs) list (Err c.refused-in-Err.result) list) c.in_ok-replay.ensures.program
     (subst (λ f. ReadAs (moving_from bs c.args.start ls [] s) (length bs) list (Err f) list) (sym c.refused-in-Err.ensures) (fault_read (moving_from bs c.args.start ls [] s) (length bs) list (At (fault_at e place.index place.byte)) refused))
 
@@ -112,7 +112,7 @@ returns-in-Ok g c s rule =
     let h = held (g.B.StoreBuffer.lists c.loop-replay.replay.buffer) c.loop-replay.replay.state in
     let here : Peeked bs place (Ok None) = subst (λ o. Peeked bs place (Ok o)) c.in_default.is c.in_ok-found.ensures in
     subst (λ (lines : List Line). WrittenAs (moving_from bs c.args.start lines [] s) list c.in-Ok.verdict c.judge.new.list) c.in_ok-replay.ensures.program
-    (going-judged rules lawful ls bs c.args.start place h c.loop-replay.invariant.0 here list c.judge.new.list c.in-Ok.verdict c.in-Ok.ensures s (c.in_ok-replay.ensures.rules ∙ rule))
+    (going_judged rules lawful ls bs c.args.start place h c.loop-replay.invariant.0 here list c.judge.new.list c.in-Ok.verdict c.in-Ok.ensures s (c.in_ok-replay.ensures.rules ∙ rule))
 
 pub returns : goal.returns
 returns g c s rule =
@@ -125,6 +125,6 @@ returns g c s rule =
     let place = c.loop-replay.place in
     let h = held (g.B.StoreBuffer.lists c.loop-replay.replay.buffer) c.loop-replay.replay.state in
     let here : Peeked bs place (Ok None) = subst (λ o. Peeked bs place (Ok o)) c.in_default.is c.in_ok-found.ensures in
-    let told = going-unjudged rules lawful ls bs c.args.start place h c.loop-replay.invariant.0 here list c.judge.new.list c.in-Err-judge.refusal c.in-Err-judge.ensures s (c.in_ok-replay.ensures.rules ∙ rule) in
+    let told = going_unjudged rules lawful ls bs c.args.start place h c.loop-replay.invariant.0 here list c.judge.new.list c.in-Err-judge.refusal c.in-Err-judge.ensures s (c.in_ok-replay.ensures.rules ∙ rule) in
     subst (λ (lines : List Line). ReadAs (moving_from bs c.args.start lines [] s) (length bs) list (Err c.refused-in-Err-judge.result) c.judge.new.list) c.in_ok-replay.ensures.program
     (subst (λ f. ReadAs (moving_from bs c.args.start ls [] s) (length bs) list (Err f) c.judge.new.list) (sym c.refused-in-Err-judge.ensures) told)

@@ -1,7 +1,7 @@
 use Rattle.std.proofs.Common.{◌≡◌, ◌+◌, ◌<◌, length, get_or, drop, Some, sym, ap, ◌∙◌, subst, arith}
 use Rattle.std.proofs.lemmas.Bool.{eq-eqb, ne_eqb}
 use Rattle.buffers.specs.Lists.{else_this, newest_to}
-use Rattle.buffers.specs.Stores.{blank, else_none, newest-here, newest-later, newest-done}
+use Rattle.buffers.specs.Stores.{blank, else_none, newest_here, newest_later, newest_done}
 use Rattle.buffers.proofs.row.Row.newest.Goals as goal
 use Rattle.buffers.proofs.row.Row.newest.Goals.{then-store-cell, else-store-cell}
 
@@ -17,13 +17,13 @@ loop-store-preserved c =
     elim c.if-store-cell.branch [
       | then-store-cell w ↦
           ap (else_this (newest_to cell (drop (i + 1) stores))) w.newest-is
-          ∙ newest-here cell stores i blank c.loop-store.newest within (eq-eqb (get_or stores i blank).cell cell w.if-store-cell.true) c.loop-store.invariant
+          ∙ newest_here cell stores i blank c.loop-store.newest within (eq-eqb (get_or stores i blank).cell cell w.if-store-cell.true) c.loop-store.invariant
       | else-store-cell w ↦
           ap (else_this (newest_to cell (drop (i + 1) stores))) w.newest-is
-          ∙ newest-later cell stores i blank c.loop-store.newest within (ne_eqb (get_or stores i blank).cell cell w.if-store-cell.false) c.loop-store.invariant
+          ∙ newest_later cell stores i blank c.loop-store.newest within (ne_eqb (get_or stores i blank).cell cell w.if-store-cell.false) c.loop-store.invariant
     ]
 
 pub returns : goal.returns
 returns c =
-    newest-done c.args.cell c.deref-store-items.result.now c.loop-store.store-index blank c.loop-store.newest c.loop-store-test.false c.loop-store.invariant
+    newest_done c.args.cell c.deref-store-items.result.now c.loop-store.store-index blank c.loop-store.newest c.loop-store-test.false c.loop-store.invariant
     ∙ ap (newest_to c.args.cell) c.deref-store-items.ensures.value

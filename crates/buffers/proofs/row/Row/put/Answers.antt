@@ -3,4 +3,4 @@ use Rattle.buffers.specs.Stores.{ranged_push}
 use Rattle.buffers.proofs.row.Row.put.Goals as goal
 
 pub invariant_of-self : goal.invariant_of-self
-invariant_of-self c = (search rules, (search rules, (search (rules, ranged_push), tt)))
+invariant_of-self c = record { room = search rules; few = search rules; ranged = search (rules, ranged_push) }

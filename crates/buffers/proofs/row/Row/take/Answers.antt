@@ -7,7 +7,7 @@ use Rattle.buffers.proofs.row.Row.take.Goals as goal
 pub returns-in_err-place : goal.returns-in_err-place
 returns-in_err-place c =
     let none = unplaced 0 c.args.cell (stores_of c.args.self.now) (sym c.place.ensures ∙ c.in_err-place.was) in
-    record { value = c.from-residual.ensures ∙ sym none.0; stores = sym none.1 }
+    record { value = c.from_residual.ensures ∙ sym none.0; stores = sym none.1 }
 
 pub remove-store-requires : goal.remove-store-requires
 remove-store-requires c =
@@ -17,7 +17,11 @@ remove-store-requires c =
 pub invariant_of-self : goal.invariant_of-self
 invariant_of-self c =
     let at = placed_at c.args.cell (stores_of c.args.self.now) c.in_ok-place.place (sym c.place.ensures ∙ c.in_ok-place.was) in
-    (search rules, (search rules, (subst (λ ss. stores_in_range ss ≡ true) (at.2 ∙ sym c.remove-store.ensures.items) (ranged_without c.args.cell (stores_of c.args.self.now) c.args.self.now.ranged), tt)))
+    record {
+      room = search rules;
+      few = search rules;
+      ranged = subst (λ ss. stores_in_range ss ≡ true) (at.2 ∙ sym c.remove-store.ensures.items) (ranged_without c.args.cell (stores_of c.args.self.now) c.args.self.now.ranged);
+    }
 
 pub returns : goal.returns
 returns c =

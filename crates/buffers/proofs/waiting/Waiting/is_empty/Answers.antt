@@ -1,10 +1,10 @@
 use Rattle.std.proofs.Common.{sym, ◌∙◌, arith}
-use Rattle.buffers.specs.Rowed.{none_here, none_left, some-here}
+use Rattle.buffers.specs.Rowed.{none_here, none_left, some_here}
 use Rattle.buffers.proofs.waiting.Waiting.is_empty.Goals as goal
 
 pub returns-then-len-gt0 : goal.returns-then-len-gt0
 returns-then-len-gt0 c =
-    sym (some-here c.args.self.now.rows.value c.loop-row.row-index c.row-item.result (omega (arith, c.args.self.now.eight)) (omega (arith, c.len.ensures))) ∙ c.loop-row.invariant
+    sym (some_here c.args.self.now.rows.value c.loop-row.row-index c.row-item.result (omega (arith, c.args.self.now.eight)) (omega (arith, c.len.ensures))) ∙ c.loop-row.invariant
 
 pub loop-row-preserved : goal.loop-row-preserved
 loop-row-preserved c =

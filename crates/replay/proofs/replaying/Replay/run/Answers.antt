@@ -19,7 +19,7 @@ returns-in_err-line g c =
     let m = Run c.args.thread c.args.instruction in
     let r = c.in_err-line.field-0.0 in
     let tested = refused_early rules ls h c.args.thread c.args.instruction r (sym c.next_line.ensures.value ∙ c.in_err-line.was) in
-    let p = err_from_is_err_and c.from-residual.result c.from-residual.ensures.1 in
+    let p = err_from_is_err_and c.from_residual.result c.from_residual.ensures.1 in
     record {
       answer = subst (λ o. Offered rules ls h m o h) (sym (p.1 ∙ ap Err p.2)) (offered_refused rules ls h m r tested);
       rules = refl;
@@ -39,10 +39,10 @@ returns-in_err-action g c =
     let steps : rules.steps h.lists t ≡ true = sym c.free_to_step.ensures ∙ c.if-not-free_to_step.false in
     let acted = c.in_err-action.ensures.action in
     let tested : tested_held rules ls h m ≡ Some r = found.rest ∙ ap (λ b. guard (not b) ThreadNotFree (form_tested_held h t line.instruction)) steps ∙ acted.alone in
-    let p = err_from_is_err_and c.from-residual-in_err-action.result c.from-residual-in_err-action.ensures.1 in
+    let p = err_from_is_err_and c.from_residual-in_err-action.result c.from_residual-in_err-action.ensures.1 in
     record {
       answer =
-          subst (λ (k : Held). Offered rules ls h m c.from-residual-in_err-action.result k) (sym acted.held)
+          subst (λ (k : Held). Offered rules ls h m c.from_residual-in_err-action.result k) (sym acted.held)
           (subst (λ o. Offered rules ls h m o h) (sym (p.1 ∙ ap Err p.2)) (offered_refused rules ls h m r tested));
       rules = c.act.ensures.rules;
       program = c.act.ensures.program;

@@ -25,7 +25,7 @@ loop-call-init g c =
     )
 
 pub returns-in_err-push : goal.returns-in_err-push
-returns-in_err-push g c = IfOk-from_err c.from-residual-in_err-push.result _ c.from-residual-in_err-push.ensures.0
+returns-in_err-push g c = IfOk-from_err c.from_residual-in_err-push.result _ c.from_residual-in_err-push.ensures.0
 
 pub loop-call-preserved : goal.loop-call-preserved
 loop-call-preserved g c =

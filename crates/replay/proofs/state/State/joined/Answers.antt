@@ -1,7 +1,7 @@
 use Rattle.std.proofs.Common.{rules}
 use Rattle.replay.specs.Names.{name_of}
 use Rattle.replay.specs.Views.{noted_of, present_of}
-use Rattle.replay.proofs.Judged.{joined-both, none_from, none_to}
+use Rattle.replay.proofs.Judged.{joined_both, none_from, none_to}
 use Rattle.replay.proofs.state.State.joined.Goals as goal
 
 pub returns-in_default : goal.returns-in_default
@@ -12,8 +12,8 @@ returns-in_default-action c = none_to (present_of c.args.self.now) (name_of c.ar
 
 pub returns-then-reads_from : goal.returns-then-reads_from
 returns-then-reads_from c =
-    joined-both (present_of c.args.self.now) (name_of c.args.from) (name_of c.args.to) (noted_of c.in-Some.first) (noted_of c.in-Some-action.second) c.in-Some.ensures c.in-Some-action.ensures _ (search rules)
+    joined_both (present_of c.args.self.now) (name_of c.args.from) (name_of c.args.to) (noted_of c.in-Some.first) (noted_of c.in-Some-action.second) c.in-Some.ensures c.in-Some-action.ensures _ (search rules)
 
 pub returns-else-reads_from : goal.returns-else-reads_from
 returns-else-reads_from c =
-    joined-both (present_of c.args.self.now) (name_of c.args.from) (name_of c.args.to) (noted_of c.in-Some.first) (noted_of c.in-Some-action.second) c.in-Some.ensures c.in-Some-action.ensures _ (search rules)
+    joined_both (present_of c.args.self.now) (name_of c.args.from) (name_of c.args.to) (noted_of c.in-Some.first) (noted_of c.in-Some-action.second) c.in-Some.ensures c.in-Some-action.ensures _ (search rules)

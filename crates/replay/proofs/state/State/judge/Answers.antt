@@ -1,7 +1,7 @@
 use Rattle.std.proofs.Common.{◌≡◌, ◌-◌, ◌≤◌, length, take, refl, ap, ◌∙◌, arith, length-take, rules}
 use Rattle.present.specs.Joins.{nodes_in}
 use Rattle.replay.specs.Views.{present_of}
-use Rattle.replay.proofs.Judged.{Placed, found_below, names-listed, order-placed, ring-placed}
+use Rattle.replay.proofs.Judged.{Placed, found_below, names_listed, order_placed, ring_placed}
 use Rattle.replay.proofs.Numbered.{nodes_many}
 use Rattle.replay.proofs.state.State.judge.Goals as goal
 use Rattle.replay.proofs.state.State.judge.Goals.{in-Order, in-Ring}
@@ -16,8 +16,8 @@ write-requires c =
     let part = take (told.1 - 0) new in
     let placed : Placed own told part =
     elim c.match-written.branch [
-      | in-Order w ↦ order-placed own n is _ new c.in-Some.written told w.in-Order.entries c.in-Some.ensures w.word-is w.in-Order.is
-      | in-Ring w ↦ ring-placed own n is _ new c.in-Some.written told w.in-Ring.entries c.in-Some.ensures w.word-is w.in-Ring.is
+      | in-Order w ↦ order_placed own n is _ new c.in-Some.written told w.in-Order.entries c.in-Some.ensures w.word-is w.in-Order.is
+      | in-Ring w ↦ ring_placed own n is _ new c.in-Some.written told w.in-Ring.entries c.in-Some.ensures w.word-is w.in-Ring.is
     ] in
     let size : length new ≡ c.len-count.result = search rules in
     let fits = length-take (told.1 - 0) new in
@@ -43,11 +43,11 @@ returns c =
     let part = take (told.1 - 0) new in
     let placed : Placed own told part =
     elim c.match-written.branch [
-      | in-Order w ↦ order-placed own n is _ new c.in-Some.written told w.in-Order.entries c.in-Some.ensures w.word-is w.in-Order.is
-      | in-Ring w ↦ ring-placed own n is _ new c.in-Some.written told w.in-Ring.entries c.in-Some.ensures w.word-is w.in-Ring.is
+      | in-Order w ↦ order_placed own n is _ new c.in-Some.written told w.in-Order.entries c.in-Some.ensures w.word-is w.in-Order.is
+      | in-Ring w ↦ ring_placed own n is _ new c.in-Some.written told w.in-Ring.entries c.in-Some.ensures w.word-is w.in-Ring.is
     ] in
     let size : length new ≡ c.len-count.result = search rules in
     let fits = length-take (told.1 - 0) new in
     let all = ap length is ∙ nodes_many own in
     let room : length part ≤ length c.args.list.now = omega (arith, fits, size) in
-    (omega (arith, all), names-listed own n is c.args.list.now c.write.new.list _ part placed.found placed.many room c.write.ensures c.delaying.ensures)
+    (omega (arith, all), names_listed own n is c.args.list.now c.write.new.list _ part placed.found placed.many room c.write.ensures c.delaying.ensures)

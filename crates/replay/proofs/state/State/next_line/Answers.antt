@@ -3,7 +3,7 @@ use Rattle.program.specs.Programs.{lines_of}
 use Rattle.program.specs.Ranges.{in_range}
 use Rattle.ledger.specs.Ledgers.{start_local}
 use Rattle.replay.specs.Views.{local_of, present_of}
-use Rattle.replay.proofs.Lining.{at-another-label, run-full, to-run}
+use Rattle.replay.proofs.Lining.{at_another_label, run_full, to_run}
 use Rattle.replay.proofs.Stating.{thread_viewed}
 use Rattle.replay.proofs.state.State.next_line.Goals as goal
 
@@ -15,7 +15,7 @@ returns-then-line-label c =
     let is : c.line.result ≡ Some line = grind arith in
     let label = c.label.ensures ∙ ap (λ l. l.label) (thread_viewed local_of state t c.index.result.now start_local c.if-thread-ge-THREADS.false c.index.ensures) in
     record {
-      value = sym (at-another-label (present_of state) (lines_of c.args.program.now) t c.args.instruction line c.if-thread-ge-THREADS.false (sym c.line.ensures.value ∙ is) c.if-line-thread.false (λ same. c.if-line-label.true (same ∙ sym label)));
+      value = sym (at_another_label (present_of state) (lines_of c.args.program.now) t c.args.instruction line c.if-thread-ge-THREADS.false (sym c.line.ensures.value ∙ is) c.if-line-thread.false (λ same. c.if-line-label.true (same ∙ sym label)));
       ranged = tt;
     }
 
@@ -27,7 +27,7 @@ returns-then-count-ge-MOST c =
     let is : c.line.result ≡ Some line = grind arith in
     let label = c.label.ensures ∙ ap (λ l. l.label) (thread_viewed local_of state t c.index.result.now start_local c.if-thread-ge-THREADS.false c.index.ensures) in
     record {
-      value = sym (run-full (present_of state) (lines_of c.args.program.now) t c.args.instruction line c.if-thread-ge-THREADS.false (sym c.line.ensures.value ∙ is) c.if-line-thread.false (c.if-line-label.false ∙ label) (omega (arith, c.if-count-ge-MOST.true, c.count.ensures)));
+      value = sym (run_full (present_of state) (lines_of c.args.program.now) t c.args.instruction line c.if-thread-ge-THREADS.false (sym c.line.ensures.value ∙ is) c.if-line-thread.false (c.if-line-label.false ∙ label) (omega (arith, c.if-count-ge-MOST.true, c.count.ensures)));
       ranged = tt;
     }
 
@@ -39,6 +39,6 @@ returns c =
     let is : c.line.result ≡ Some line = grind arith in
     let label = c.label.ensures ∙ ap (λ l. l.label) (thread_viewed local_of state t c.index.result.now start_local c.if-thread-ge-THREADS.false c.index.ensures) in
     record {
-      value = sym (to-run (present_of state) (lines_of c.args.program.now) t c.args.instruction line c.if-thread-ge-THREADS.false (sym c.line.ensures.value ∙ is) c.if-line-thread.false (c.if-line-label.false ∙ label) (omega (arith, c.if-count-ge-MOST.false, c.count.ensures)));
+      value = sym (to_run (present_of state) (lines_of c.args.program.now) t c.args.instruction line c.if-thread-ge-THREADS.false (sym c.line.ensures.value ∙ is) c.if-line-thread.false (c.if-line-label.false ∙ label) (omega (arith, c.if-count-ge-MOST.false, c.count.ensures)));
       ranged = subst (λ o. IfSome o (λ l. in_range l ≡ true)) is c.line.ensures.ranged;
     }

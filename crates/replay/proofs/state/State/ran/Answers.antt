@@ -2,7 +2,7 @@ use Rattle.std.proofs.Common.{◌||◌, [], map, length, get_or, vec_items, sym,
 use Rattle.ledger.specs.Ledgers.{update}
 use Rattle.replay.specs.Views.{has_bit, noted_in}
 use Rattle.replay.proofs.Bits.{bit_written, none_written}
-use Rattle.replay.proofs.Stating.{local-ran, noted_more, one_of_all, present_same, thread_viewed}
+use Rattle.replay.proofs.Stating.{local_ran, noted_more, one_of_all, present_same, thread_viewed}
 use Rattle.replay.proofs.state.State.ran.Goals as goal
 
 pub run-requires : goal.run-requires
@@ -19,7 +19,7 @@ returns-then-delays c =
     let t = c.args.thread in
     let before = c.index-mut.result.now in
     present_same
-    (local-ran state t before c.run.new.self c.args.action c.requires.thread c.index-mut.ensures.value c.args.line c.run.ensures.local)
+    (local_ran state t before c.run.new.self c.args.action c.requires.thread c.index-mut.ensures.value c.args.line c.run.ensures.local)
     refl
     (noted_more state t before c.run.new.self c.args.action c.requires.thread c.index-mut.ensures.value c.run.ensures.noted)
     (bit_written state.delayed t c.requires.thread ∙ ap (λ b. update (λ u. has_bit u state.delayed) t (has_bit t state.delayed || b)) (sym c.if-delays.true))
@@ -30,7 +30,7 @@ returns-else-delays c =
     let t = c.args.thread in
     let before = c.index-mut.result.now in
     present_same
-    (local-ran state t before c.run.new.self c.args.action c.requires.thread c.index-mut.ensures.value c.args.line c.run.ensures.local)
+    (local_ran state t before c.run.new.self c.args.action c.requires.thread c.index-mut.ensures.value c.args.line c.run.ensures.local)
     refl
     (noted_more state t before c.run.new.self c.args.action c.requires.thread c.index-mut.ensures.value c.run.ensures.noted)
     (none_written (λ u. has_bit u state.delayed) t ∙ ap (λ b. update (λ u. has_bit u state.delayed) t (has_bit t state.delayed || b)) (sym c.if-delays.false))

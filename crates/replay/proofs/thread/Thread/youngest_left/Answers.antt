@@ -3,7 +3,7 @@ use Rattle.buffers.specs.Lists.{else_this}
 use Rattle.buffers.specs.Stores.{else_none}
 use Rattle.present.specs.Data.{youngest_left}
 use Rattle.replay.specs.Views.{noted_of}
-use Rattle.replay.proofs.Keeping.{blank, youngest-done, youngest-step}
+use Rattle.replay.proofs.Keeping.{blank, youngest_done, youngest_step}
 use Rattle.replay.proofs.thread.Thread.youngest_left.Goals as goal
 use Rattle.replay.proofs.thread.Thread.youngest_left.Goals.{then-left_waiting, else-left_waiting}
 
@@ -19,16 +19,16 @@ loop-position-preserved c =
     elim c.if-left_waiting.branch [
       | then-left_waiting w ↦
           ap (else_this (youngest_left (i + 1) cell (drop (i + 1) (map noted_of xs)))) w.youngest-is
-          ∙ youngest-step cell xs i blank true so_far c.loop-position-test.true (sym c.left_waiting.ensures ∙ w.if-left_waiting.true)
+          ∙ youngest_step cell xs i blank true so_far c.loop-position-test.true (sym c.left_waiting.ensures ∙ w.if-left_waiting.true)
           ∙ c.loop-position.invariant
       | else-left_waiting w ↦
           ap (else_this (youngest_left (i + 1) cell (drop (i + 1) (map noted_of xs)))) w.youngest-is
-          ∙ youngest-step cell xs i blank false so_far c.loop-position-test.true (sym c.left_waiting.ensures ∙ w.if-left_waiting.false)
+          ∙ youngest_step cell xs i blank false so_far c.loop-position-test.true (sym c.left_waiting.ensures ∙ w.if-left_waiting.false)
           ∙ c.loop-position.invariant
     ]
 
 pub returns : goal.returns
 returns c =
-    sym (youngest-done c.args.cell c.deref-action-items.result.now c.loop-position.position blank c.loop-position.youngest c.loop-position-test.false)
+    sym (youngest_done c.args.cell c.deref-action-items.result.now c.loop-position.position blank c.loop-position.youngest c.loop-position-test.false)
     ∙ c.loop-position.invariant
     ∙ ap (λ xs. youngest_left 0 c.args.cell (map noted_of xs)) c.deref-action-items.ensures.value
