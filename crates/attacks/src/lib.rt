@@ -1,5 +1,6 @@
 // The attack pairs of a program: the stores and later loads of one thread that a store buffer could reorder.
 #![tactic(auto)]
+
 ghost use Rattle.program.specs.Programs.{lines_of};
 ghost use Rattle.attacks.specs.Attacks.{Listed, OneList};
 

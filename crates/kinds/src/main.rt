@@ -1,5 +1,6 @@
 // Shows how the kinds of store buffer differ: makes the same calls of each, and prints what each answers.
 #![tactic(auto)]
+
 use buffers::{Direct, PerCell, Queue, StoreBuffer, StrongCells};
 
 fn word(free: bool) -> &'static str {

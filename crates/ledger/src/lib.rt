@@ -1,6 +1,7 @@
 // What a run of a program comes to, apart from the data of any program that replays it: definitions in specs/, and the
 // theorems about them.
 #![tactic(auto)]
+
 mod moves;
 mod theorems;
 

@@ -1,5 +1,6 @@
 // Lists the attack pairs of some sample programs: prints each program, one line of it a line, and then its pairs.
 #![tactic(auto)]
+
 mod samples;
 
 use attacks::{Pair, attack_pairs};
