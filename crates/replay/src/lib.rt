@@ -1,5 +1,6 @@
 // Replays a run over any store buffer and judges it.
 #![tactic(auto)]
+
 mod actions;
 mod calls;
 mod happens_before;
