@@ -2,6 +2,7 @@
 use Rattle.std.proofs.Common.{◌≡◌, ℕ, ◌+◌, ◌<◌, ◌≤◌, Bool, true, false, cond, not, ◌||◌, eqb, leb, List, [], ◌∷◌, ◌++◌, length, get_or, Some, None, Ok, Err, Option, Result, sym, refl, ap, ◌∙◌, subst, arith, length-set}
 use mathlib.Core.Path.{fun_ext}
 use Rattle.std.specs.List.{slice_get}
+use Rattle.std.specs.Option.{ok_or}
 use Rattle.std.proofs.lemmas.List.{length_push}
 use Rattle.std.proofs.lemmas.Bool.{leb-false}
 use Rattle.refusal.specs.declared.Refusal.{Refusal}
@@ -24,6 +25,11 @@ use Rattle.present.specs.Data.{Held, Noted, Present, how_many_in, left_waiting, 
 use Rattle.replay.specs.Offers.{Offered, acting, held_after}
 use Rattle.replay.specs.declared.actions.Action.{Action}
 use Rattle.replay.specs.States.{line_at, next_line, noted_ran}
+
+-- What was told where there was something to tell.
+pub ok_or_told : (o : Option ℕ) (e : Refusal) (v : ℕ) → Ok v ≡ ok_or o e → o ≡ Some v
+ok_or_told None e v is = cc
+ok_or_told (Some w) e v is = cc
 
 -- Where the first tests refuse a run, all of them do, by that.
 pub refused_early : (rules : Rules) (ls : List Line) (h : Held) (t n : ℕ) (r : Refusal) → next_line h.own ls t n ≡ Err r → tested_held rules ls h (Run t n) ≡ Some r

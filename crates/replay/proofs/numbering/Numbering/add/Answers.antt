@@ -16,7 +16,10 @@ pub invariant_of-self : goal.invariant_of-self
 invariant_of-self c =
     let n = c.loop-position.self in
     let counted = run_counted (names_in c.args.self.now) n c.args.thread c.loop-position.position c.loop-position.invariant in
-    (length-set n.names n.count (record { thread = c.args.thread; position = c.loop-position.position }) ∙ n.many, (omega (arith, counted), tt))
+    record {
+      many = length-set n.names n.count (record { thread = c.args.thread; position = c.loop-position.position }) ∙ n.many;
+      few = omega (arith, counted);
+    }
 
 pub loop-position-preserved : goal.loop-position-preserved
 loop-position-preserved c =

@@ -68,11 +68,12 @@ invariant_of-self-4 g c =
     let h = held (g.B.StoreBuffer.lists c.args.self.now.buffer) c.args.self.now.state in
     let found = found_line rules ls h c.args.thread c.args.instruction c.in_ok-line.line (sym c.next_line.ensures.value ∙ c.in_ok-line.was) in
     let acted = c.in_ok-action.ensures.action in
-    let room = subst (λ (k : Held). how_many_in k.own < 256) (sym acted.held) found.room in (
-      subst (λ (own : Present). how_many_in own ≤ 256) (sym c.ran.ensures)
-          (few_ran (present_of c.act.new.self.state) c.args.thread c.in_ok-line.line (noted_of c.in_ok-action.action) (ltb 0 c.waiting-delays.result) room),
-      tt,
-    )
+    let room = subst (λ (k : Held). how_many_in k.own < 256) (sym acted.held) found.room in
+    record {
+      few =
+          subst (λ (own : Present). how_many_in own ≤ 256) (sym c.ran.ensures)
+          (few_ran (present_of c.act.new.self.state) c.args.thread c.in_ok-line.line (noted_of c.in_ok-action.action) (ltb 0 c.waiting-delays.result) room);
+    }
 
 pub returns : goal.returns
 returns g c =

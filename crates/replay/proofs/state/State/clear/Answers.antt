@@ -8,7 +8,7 @@ use Rattle.replay.proofs.Stating.{fresh_from, written_more}
 use Rattle.replay.proofs.state.State.clear.Goals as goal
 
 pub loop-thread-init : goal.loop-thread-init
-loop-thread-init c = (refl, refl, omega (arith, c.deref-mut-thread-items.ensures.len, c.args.self.now.eight))
+loop-thread-init c = (refl, refl, omega (arith, c.deref_mut-thread-items.ensures.len, c.args.self.now.eight))
 
 pub loop-thread-preserved : goal.loop-thread-preserved
 loop-thread-preserved c =

@@ -9,7 +9,7 @@ use Rattle.replay.proofs.state.State.drained.Goals as goal
 
 pub overwrite-requires : goal.overwrite-requires
 overwrite-requires c =
-    let noted = thread_viewed noted_in c.args.self.now c.args.name.thread c.index-mut.result.now [] c.requires.thread c.index-mut.ensures.value in
+    let noted = thread_viewed noted_in c.args.self.now c.args.name.thread c.index_mut.result.now [] c.requires.thread c.index_mut.ensures.value in
     omega (arith, ap length noted, c.requires.there)
 
 pub returns : goal.returns
@@ -18,11 +18,11 @@ returns c =
     let threads = vec_items state.threads in
     let t = c.args.name.thread in
     let p = c.args.name.position in
-    let before = c.index-mut.result.now in
+    let before = c.index_mut.result.now in
     let after = c.overwrite.new.self in
     let within : c.args.cell < length state.cells = omega (arith, c.requires.cell, state.sixteen) in
-    let local = thread_viewed local_of state t before start_local c.requires.thread c.index-mut.ensures.value in
-    let noted = thread_viewed noted_in state t before [] c.requires.thread c.index-mut.ensures.value in
+    let local = thread_viewed local_of state t before start_local c.requires.thread c.index_mut.ensures.value in
+    let noted = thread_viewed noted_in state t before [] c.requires.thread c.index_mut.ensures.value in
     let source = ap (λ r. r.source) (sym (get_or-map read_of state.cells c.args.cell blank untouched within)) in
     present_same
     (unchanged local_of threads t after start_local (c.overwrite.ensures.local ∙ local))

@@ -25,7 +25,7 @@ loop-preserved c =
     )
 
 pub invariant_of-result : goal.invariant_of-result
-invariant_of-result c = (omega (arith, c.loop.invariant.0, c.loop.auto.counter-end, c.loop-test.false), (refl, tt))
+invariant_of-result c = record { eight = omega (arith, c.loop.invariant.0, c.loop.auto.counter-end, c.loop-test.false); sixteen = refl }
 
 pub returns : goal.returns
 returns c = fresh_from (vec_items c.loop.threads) c.loop.counter c.loop.invariant.2 c.loop.invariant.3

@@ -11,7 +11,11 @@ push_reserved-requires c =
 pub invariant_of-self : goal.invariant_of-self
 invariant_of-self c =
     let thread = c.args.self.now in
-    (thread.eight, (omega (arith, c.push_reserved.ensures.capacity, thread.room), (omega (arith, c.push_reserved.ensures.len, c.requires, length-map (vec_items thread.actions) noted_of, thread.actions.ok.0), tt)))
+    record {
+      eight = thread.eight;
+      room = omega (arith, c.push_reserved.ensures.capacity, thread.room);
+      few = omega (arith, c.push_reserved.ensures.len, c.requires, length-map (vec_items thread.actions) noted_of, thread.actions.ok.0);
+    }
 
 pub returns : goal.returns
 returns c =
