@@ -1,6 +1,6 @@
 -- A chain of the graph's edges is a path through the code, so what the search reaches from a store are the loads of its
 -- attack pairs.
-use Rattle.std.proofs.Common.{◌≡◌, ℕ, ◌<◌, Bool, true, false, not, ◌&&◌, List, [], length, get_or, replicate, Some, None, Option, sym, refl, ap, ◌∙◌, subst, ⊎_elim, arith}
+use Rattle.std.proofs.Common.{◌≡◌, ℕ, ◌<◌, Bool, true, false, not, ◌&&◌, List, [], length, get_or, replicate, Some, None, Option, sym, refl, ap, ◌∙◌, ⊎_elim, arith}
 use lib.ListN.{length-replicate}
 use Rattle.std.specs.List.{slice_get}
 use Rattle.std.proofs.lemmas.List.{get_or-replicate, get_or_past}
@@ -10,7 +10,7 @@ use Rattle.graph.specs.Chains.{Chain, edge, onward}
 use Rattle.program.specs.declared.forms.Instruction.{Instruction}
 use Rattle.program.specs.declared.forms.Instruction.TheVariants.{Load, Store, Fence, Compute, Assert}
 use Rattle.program.specs.declared.lines.Line.{Line}
-use Rattle.attacks.specs.Attacks.{Attack, Path, step, through, follows, has, passes, is_fence, is_load, is_store}
+use Rattle.attacks.specs.Attacks.{Path, step, through, follows, has, passes, is_fence, is_load, is_store}
 use Rattle.attacks.specs.Paths.{goes_on}
 use Rattle.attacks.specs.Tables.{RightRow, RightTable}
 use Rattle.attacks.proofs.Filling.{Filled}

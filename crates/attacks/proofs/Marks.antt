@@ -1,7 +1,6 @@
 -- The marked places of a row and of a table, one place and one row at a time.
 use Rattle.std.proofs.Common.{◌≡◌, ℕ, suc, ◌+◌, ◌<◌, ◌≤◌, Bool, true, false, cond, List, [], ◌∷◌, ◌++◌, length, get_or, take, drop, set, sym, refl, ap, ◌∙◌, append_assoc, append-nil, suc-le-suc, arith, length-append}
 use Rattle.std.proofs.lemmas.List.{at_drop_more, at_drop_all, take_more_set, drop-set-lt, drop-drop}
-use Rattle.attacks.specs.declared.pair.Pair.{Pair}
 use Rattle.attacks.specs.Tables.{pair, row_pairs, table_pairs}
 
 -- What is left of a row begins with the place i, if that is marked.

@@ -1,10 +1,9 @@
 -- Two ascending lists of the same pairs are one list.
-use Rattle.std.proofs.Common.{◌≡◌, ℕ, zero, suc, ◌<◌, ◌⊎◌, List, [], ◌∷◌, length, get_or, sym, refl, ap, ◌∙◌, subst, inl, inr, ⊎_elim, suc-le-suc, le_of_suc-le-suc, arith}
-use Rattle.std.specs.List.{ContainsAt as Has, AllByRecursion as All}
-use Rattle.std.proofs.ByRecursion.{All-get_or, all-has}
-use Rattle.program.specs.declared.lines.Line.{Line}
+use Rattle.std.proofs.Common.{◌≡◌, zero, suc, ◌⊎◌, List, [], ◌∷◌, sym, refl, ap, ◌∙◌, subst, inl, inr, ⊎_elim, suc-le-suc, le_of_suc-le-suc, arith}
+use Rattle.std.specs.List.{ContainsAt as Has}
+use Rattle.std.proofs.ByRecursion.{all-has}
 use Rattle.attacks.specs.declared.pair.Pair.{Pair}
-use Rattle.attacks.specs.Attacks.{Ascending, Attack, AttackPairs, Before, OneList}
+use Rattle.attacks.specs.Attacks.{Ascending, Attack, Before, OneList}
 
 -- No pair comes before itself, and of two pairs only one comes before the other.
 not_itself : (p : Pair) → Before p p → ⊥

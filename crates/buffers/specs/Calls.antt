@@ -2,7 +2,7 @@
 -- put-answer, put-lists      a store is put at the end of the thread's list
 -- take-answer, take-lists    the thread's oldest store to a cell is taken out
 -- no_stores                  what waits once all is cleared
-use Rattle.std.specs.Prelude.{ℕ, Bool, cond, List, [], ◌∷◌, ◌++◌, length, replicate, Ok, Err, Result, nat_le, slice_set}
+use Rattle.std.specs.Prelude.{ℕ, Bool, cond, [], ◌∷◌, ◌++◌, length, replicate, Ok, Err, Result, nat_le, slice_set}
 use Rattle.std.specs.Option.{ok_or}
 use Rattle.refusal.specs.declared.Refusal.{Refusal}
 use Rattle.refusal.specs.declared.Refusal.TheVariants.{ThreadOutOfRange, CellOutOfRange, BufferFull, DrainNotFree}

@@ -1,6 +1,6 @@
 -- Whether a store waits for one of the chosen cells, asked cell by cell.
 use Rattle.std.specs.Prelude.{◌≡◌, ℕ, ◌^◌, ◌<◌, Bool, true, false, cond, not, ◌&&◌, ◌||◌, List, [], ◌∷◌, get_or, is_some, Some, None, Option, ◌==◌, ◌≢◌, nat_lt, slice_index_or, refl}
-use Rattle.std.proofs.Common.{sym, ap, subst, ◌∙◌}
+use Rattle.std.proofs.Common.{sym, ap, ◌∙◌}
 use Rattle.std.proofs.lemmas.Bool.{and_parts, both_ways, eq-eqb, eqb-true, ltb-true, or_from, or_left, or_right, true≢false}
 use Rattle.buffers.specs.Kinds.{has_chosen, strong}
 use Rattle.buffers.specs.Laws.{Lawful, Rules}

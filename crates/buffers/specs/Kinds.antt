@@ -3,10 +3,10 @@
 -- queue        any thread may step; the thread's oldest store may drain
 -- per_cell     any thread may step; the oldest store to any cell may drain
 -- strong cs r  as r, but that a thread may not step while a store of its own waits for one of the cells cs
-use Rattle.std.specs.Prelude.{ℕ, Bool, true, false, not, ◌&&◌, ◌||◌, List, [], ◌∷◌, ◌==◌, nat_lt, slice_index_or}
+use Rattle.std.specs.Prelude.{ℕ, Bool, false, not, ◌&&◌, ◌||◌, List, [], ◌∷◌, ◌==◌, nat_lt, slice_index_or}
 use Rattle.buffers.specs.declared.store.Store.{Store}
 use Rattle.buffers.specs.Laws.{Rules}
-use Rattle.buffers.specs.Lists.{Lists, list_of, nothing_waits, waits_to}
+use Rattle.buffers.specs.Lists.{list_of, nothing_waits, waits_to}
 
 abbrev pub a_thread : ℕ → Bool
 a_thread t = nat_lt t 8

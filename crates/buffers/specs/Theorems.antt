@@ -8,7 +8,7 @@
 -- TakesOldest          over every kind, a free drain takes the thread's oldest store to its cell, and leaves the others as they were
 -- OnlyOldestLeaves    over queue, that store is the thread's oldest of all
 -- NothingChosen        strong cells with nothing chosen have the rules of the kind below
-use Rattle.std.specs.Prelude.{◌≡◌, ℕ, Bool, true, false, cond, ◌&&◌, List, [], ◌∷◌, ◌++◌, replicate, Ok, Err, Result, ◌==◌}
+use Rattle.std.specs.Prelude.{◌≡◌, ℕ, true, false, cond, ◌&&◌, List, [], ◌∷◌, ◌++◌, replicate, Ok, Err, Result, ◌==◌}
 use Rattle.refusal.specs.declared.Refusal.{Refusal}
 use Rattle.buffers.specs.Calls.{no_stores, put_answer, put_lists, take_answer, take_lists}
 use Rattle.buffers.specs.Kinds.{queue, strong}

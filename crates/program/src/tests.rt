@@ -171,7 +171,7 @@ fn operations_are_of_32_bits(rt: HostRuntime) {
 
 fn prints(rt: &impl Abort, heap: Global, instruction: Instruction, text: &str) -> Result<(), Fail> {
     let line = standing(instruction);
-    assert!(rt; format!(in heap; "{line}")? == text);
+    assert!(rt; format!(in heap; "{line}")?.as_str() == text);
     Ok(())
 }
 

@@ -1,5 +1,6 @@
 // Recordings of runs: what their bytes mean, the verdict on one, and the verdict printed.
 #![tactic(auto)]
+
 mod acceptance;
 mod faults;
 mod fields;

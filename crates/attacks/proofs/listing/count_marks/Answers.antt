@@ -1,4 +1,4 @@
-use Rattle.std.proofs.Common.{◌≡◌, ◌+◌, ◌<◌, ◌≤◌, [], length, get_or, drop, ap, ◌∙◌, arith, length-append}
+use Rattle.std.proofs.Common.{◌+◌, ◌<◌, ◌≤◌, [], length, get_or, drop, ap, ◌∙◌, arith, length-append}
 use Rattle.attacks.specs.Tables.{row_pairs, table_pairs}
 use Rattle.attacks.proofs.Marks.{table_left, table_left_none, row_length}
 use Rattle.attacks.proofs.listing.count_marks.Goals as goal

@@ -1,4 +1,4 @@
-use Rattle.std.proofs.Common.{◌≡◌, ◌+◌, ◌<◌, ◌≤◌, [], ◌++◌, length, get_or, take, drop, sym, ap, ◌∙◌, arith, length-append, take-append-drop}
+use Rattle.std.proofs.Common.{◌≡◌, ◌+◌, ◌<◌, ◌≤◌, [], ◌++◌, length, get_or, drop, sym, ap, ◌∙◌, arith, length-append, take-append-drop}
 use Rattle.attacks.specs.Tables.{row_pairs, table_pairs}
 use Rattle.attacks.proofs.Marks.{table_left, table_left_none, written_part, written_all}
 use Rattle.attacks.proofs.listing.write_pairs.Goals as goal

@@ -1,6 +1,6 @@
-use Rattle.std.proofs.Common.{◌≡◌, ◌+◌, ◌<◌, ◌≤◌, length, drop, set, ap, arith}
+use Rattle.std.proofs.Common.{◌+◌, ◌<◌, ◌≤◌, length, drop, ap, arith}
 use Rattle.attacks.specs.Tables.{pair, row_pairs}
-use Rattle.attacks.proofs.Marks.{row_left_yes, row_left_no, row_left_none, Written, written_more, written_all}
+use Rattle.attacks.proofs.Marks.{row_left_yes, row_left_no, row_left_none, written_more, written_all}
 use Rattle.attacks.proofs.listing.write_row.Goals as goal
 use Rattle.attacks.proofs.listing.write_row.Goals.{then-marked, else-marked}
 

@@ -1,4 +1,4 @@
-use Rattle.std.proofs.Common.{◌≡◌, ◌+◌, ◌<◌, Bool, false, List, [], length, get_or, replicate, sym, refl, ap, ◌∙◌, subst, arith, length-set}
+use Rattle.std.proofs.Common.{◌≡◌, ◌+◌, ◌<◌, Bool, false, List, [], length, get_or, replicate, sym, refl, ◌∙◌, subst, arith, length-set}
 use Rattle.program.specs.Programs.{lines_of}
 use Rattle.attacks.specs.Tables.{RightRow}
 use Rattle.attacks.proofs.Chained.{Blank, row_of_none, table_from_rows, blank_row}

@@ -26,29 +26,29 @@ returns-in_err-place c =
     let on = reads_on bs s (lines_of c.in_ok-program.program) c.in_ok-setup.ensures c.in_ok-program.ensures in
     subst (λ r. ReadAs (reading bs) (length bs) list r list) (sym (p.1 ∙ ap Err p.2)) (fault_read (reading bs) (length bs) list e (subst (λ read. AtFault read e) (sym on) (c.in_err-place.ensures s)))
 
-pub returns-in_err-new : goal.returns-in_err-new
-returns-in_err-new c =
+pub returns-in_err-new-in-Direct : goal.returns-in_err-new-in-Direct
+returns-in_err-new-in-Direct c =
     let bs = c.args.recording.now in
     let list = c.args.list.now in
-    let p = err_from_is_err_and c.from_residual-in_err-new.result c.from_residual-in_err-new.ensures.1 in
+    let p = err_from_is_err_and c.from_residual-in_err-new-in-Direct.result c.from_residual-in_err-new-in-Direct.ensures.1 in
     subst (λ r. ReadAs (reading bs) (length bs) list r list) (sym (p.1 ∙ ap Err p.2)) refl
 
-pub returns-in_err-new-2 : goal.returns-in_err-new-2
-returns-in_err-new-2 c =
+pub returns-in_err-new-in-Queue : goal.returns-in_err-new-in-Queue
+returns-in_err-new-in-Queue c =
     let bs = c.args.recording.now in
     let list = c.args.list.now in
-    let p = err_from_is_err_and c.from_residual-in_err-new-2.result c.from_residual-in_err-new-2.ensures.1 in
+    let p = err_from_is_err_and c.from_residual-in_err-new-in-Queue.result c.from_residual-in_err-new-in-Queue.ensures.1 in
     subst (λ r. ReadAs (reading bs) (length bs) list r list) (sym (p.1 ∙ ap Err p.2)) refl
 
-pub returns-in_err-new-3 : goal.returns-in_err-new-3
-returns-in_err-new-3 c =
+pub returns-in_err-new-in-PerCell : goal.returns-in_err-new-in-PerCell
+returns-in_err-new-in-PerCell c =
     let bs = c.args.recording.now in
     let list = c.args.list.now in
-    let p = err_from_is_err_and c.from_residual-in_err-new-3.result c.from_residual-in_err-new-3.ensures.1 in
+    let p = err_from_is_err_and c.from_residual-in_err-new-in-PerCell.result c.from_residual-in_err-new-in-PerCell.ensures.1 in
     subst (λ r. ReadAs (reading bs) (length bs) list r list) (sym (p.1 ∙ ap Err p.2)) refl
 
-pub returns-in_ok-new : goal.returns-in_ok-new
-returns-in_ok-new c =
+pub returns-in_ok-new-in-Direct : goal.returns-in_ok-new-in-Direct
+returns-in_ok-new-in-Direct c =
     let bs = c.args.recording.now in
     let list = c.args.list.now in
     let s = c.in_ok-setup.setup in
@@ -57,8 +57,8 @@ returns-in_ok-new c =
     ap (λ chosen. strong chosen direct) (c.new-buffer.ensures.chosen ∙ c.chosen_cells-chosen.ensures) ∙ ap (λ k. strong (chosen_by s.strong) (kind_rules k)) (sym c.in-Direct.is) in
     subst (λ read. ReadAs read (length bs) list c.replay_moves.result c.replay_moves.new.list) (sym (on ∙ c.in_ok-place.ensures.goes_on s)) (c.replay_moves.ensures s rule)
 
-pub returns-in_ok-new-2 : goal.returns-in_ok-new-2
-returns-in_ok-new-2 c =
+pub returns-in_ok-new-in-Queue : goal.returns-in_ok-new-in-Queue
+returns-in_ok-new-in-Queue c =
     let bs = c.args.recording.now in
     let list = c.args.list.now in
     let s = c.in_ok-setup.setup in
@@ -67,8 +67,8 @@ returns-in_ok-new-2 c =
     ap (λ chosen. strong chosen queue) (c.new-buffer-in-Queue.ensures.chosen ∙ c.chosen_cells-chosen.ensures) ∙ ap (λ k. strong (chosen_by s.strong) (kind_rules k)) (sym c.in-Queue.is) in
     subst (λ read. ReadAs read (length bs) list c.replay_moves-in-Queue.result c.replay_moves-in-Queue.new.list) (sym (on ∙ c.in_ok-place.ensures.goes_on s)) (c.replay_moves-in-Queue.ensures s rule)
 
-pub returns-in_ok-new-3 : goal.returns-in_ok-new-3
-returns-in_ok-new-3 c =
+pub returns-in_ok-new-in-PerCell : goal.returns-in_ok-new-in-PerCell
+returns-in_ok-new-in-PerCell c =
     let bs = c.args.recording.now in
     let list = c.args.list.now in
     let s = c.in_ok-setup.setup in

@@ -1,5 +1,5 @@
 use Rattle.std.proofs.Common.{◌≡◌, drop}
-use Rattle.buffers.specs.Rows.{place_of, stores_of}
+use Rattle.buffers.specs.Rows.{place_of}
 use Rattle.buffers.proofs.row.Row.place.Given as goal
 
 abbrev pub invariant-loop-place : goal.invariant-loop-place

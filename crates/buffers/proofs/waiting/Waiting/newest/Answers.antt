@@ -1,4 +1,4 @@
-use Rattle.std.proofs.Common.{length, sym, ap, ◌∙◌, arith}
+use Rattle.std.proofs.Common.{sym, ap, ◌∙◌, arith}
 use Rattle.buffers.specs.Lists.{newest_to}
 use Rattle.buffers.specs.Rowed.{list_at, list_past}
 use Rattle.buffers.proofs.waiting.Waiting.newest.Goals as goal

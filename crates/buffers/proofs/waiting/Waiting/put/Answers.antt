@@ -1,8 +1,6 @@
-use Rattle.std.proofs.Common.{◌≡◌, false, cond, leb, [], ◌∷◌, ◌++◌, map, length, set, sym, ap, ◌∙◌, arith}
+use Rattle.std.proofs.Common.{[], ◌∷◌, ◌++◌, map, length, set, sym, ap, ◌∙◌, arith}
 use Rattle.std.proofs.lemmas.List.{map-set}
-use Rattle.std.proofs.lemmas.Bool.{lt-leb}
-use Rattle.buffers.specs.Calls.{put_answer, store}
-use Rattle.buffers.specs.Lists.{list_of}
+use Rattle.buffers.specs.Calls.{store}
 use Rattle.buffers.specs.Rows.{stores_of}
 use Rattle.buffers.proofs.Calls.{put_taken}
 use Rattle.buffers.specs.Rowed.{list_at}
