@@ -1,5 +1,6 @@
 // Performs the worked runs and prints, run by run, each call with its answer.
 #![tactic(auto)]
+
 mod programs;
 mod runs;
 

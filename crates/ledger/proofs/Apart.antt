@@ -1,14 +1,13 @@
 -- An edge, by its four sorts; and that it is the same edge in the same trace.
-use Rattle.std.proofs.Common.{◌≡◌, ℕ, zero, suc, ◌+◌, ◌<◌, Bool, true, false, ◌&&◌, ◌||◌, eqb, ltb, ◌⊎◌, List, [], ◌∷◌, ◌++◌, length, get_or, Some, None, Option, sym, refl, ap, ◌∙◌, subst, inl, inr, ⊎_elim, arith}
-use Rattle.std.specs.List.{ContainsAt as Has, AllByRecursion as All}
-use Rattle.std.proofs.ByRecursion.{all-has}
+use Rattle.std.proofs.Common.{◌≡◌, ℕ, ◌+◌, true, false, ◌&&◌, eqb, ◌⊎◌, List, [], ◌∷◌, ◌++◌, length, Some, sym, refl, ap, ◌∙◌, subst, inl, inr, ⊎_elim, arith}
+use Rattle.std.specs.List.{AllByRecursion as All}
 use Rattle.std.proofs.lemmas.Bool.{and_parts, eqb-true, ltb-true, or_cases, or_left, or_right, true≢false}
-use Rattle.ledger.specs.Actions.{Access, Action, Name, Source, from, initial, loads, name, none, same, stores}
-use Rattle.ledger.specs.Edges.{SameTrace, Trace, after_source, edge, first_in, from_reads, is_action, is_source, next_in, program_order, reads_from, store_order}
-use Rattle.ledger.specs.Ledgers.{action_at, no_action}
+use Rattle.ledger.specs.Actions.{Access, Name, Source, from, initial, loads, none, same, stores}
+use Rattle.ledger.specs.Edges.{Trace, after_source, edge, first_in, from_reads, is_action, next_in, program_order, reads_from, store_order}
+use Rattle.ledger.specs.Ledgers.{action_at}
 use Rattle.ledger.specs.Moves.{last_of}
 use Rattle.ledger.specs.Orders.{Lacks}
-use Rattle.ledger.proofs.Growing.{Exists, same_self, same_true}
+use Rattle.ledger.proofs.Growing.{Exists, same_true}
 use Rattle.ledger.proofs.Sound.{NoTwice}
 
 -- the four sorts

@@ -1,6 +1,6 @@
 -- Orders that are checked by computing.
-use Rattle.std.proofs.Common.{◌≡◌, ℕ, suc, ◌<◌, Bool, true, false, not, ◌&&◌, ◌||◌, ◌⊎◌, List, [], ◌∷◌, ◌++◌, length, sym, refl, ap, ◌∙◌, subst, inl, inr, ⊎_elim, arith}
-use Rattle.std.specs.List.{ContainsAt as Has, AllByRecursion as All}
+use Rattle.std.proofs.Common.{◌≡◌, ℕ, suc, ◌<◌, Bool, true, false, not, ◌&&◌, ◌||◌, List, [], ◌∷◌, ◌++◌, length, sym, subst, ⊎_elim, arith}
+use Rattle.std.specs.List.{ContainsAt as Has}
 use Rattle.std.proofs.ByRecursion.{has_append_right}
 use Rattle.std.proofs.lemmas.Bool.{and_parts, both_ways, not-true, or_cases, or_parts, true≢false}
 use Rattle.program.specs.declared.lines.Line.{Line}
@@ -11,7 +11,7 @@ use Rattle.ledger.specs.Orders.{InOrder, Lacks, Order, Ready}
 use Rattle.ledger.specs.Tests.{threads}
 use Rattle.ledger.proofs.Exact.{all_of, in_names}
 use Rattle.ledger.proofs.Growing.{same_self, same_true}
-use Rattle.ledger.proofs.Sorting.{In, in_all}
+use Rattle.ledger.proofs.Sorting.{In}
 use Rattle.ledger.proofs.Sound.{Sound}
 
 abbrev member : Name → List Name → Bool

@@ -1,17 +1,17 @@
 -- A drain keeps what holds of every ledger; and so does every accepted move, over every kind that keeps the laws.
-use Rattle.std.proofs.Common.{◌≡◌, ℕ, zero, suc, ◌<◌, Bool, true, false, ◌⊎◌, List, [], ◌∷◌, ◌++◌, map, length, get_or, Some, None, Option, sym, refl, ap, ◌∙◌, subst, inl, inr, ⊎_elim, arith}
+use Rattle.std.proofs.Common.{◌≡◌, ℕ, zero, suc, ◌<◌, true, ◌⊎◌, List, [], ◌∷◌, ◌++◌, map, Some, sym, refl, ap, ◌∙◌, subst, inl, inr, ⊎_elim, arith}
 use Rattle.std.specs.List.{ContainsAt as Has, AllByRecursion as All}
-use Rattle.std.proofs.ByRecursion.{All-append, All-push, All-weaker, has_append_left, has_push}
+use Rattle.std.proofs.ByRecursion.{All-push, All-weaker, has_append_left, has_push}
 use Rattle.std.proofs.lemmas.Bool.{cases_eq}
 use Rattle.program.specs.declared.lines.Line.{Line}
 use Rattle.buffers.specs.Laws.{Lawful, Rules}
 use Rattle.buffers.specs.Lists.{list_of, waits_to}
-use Rattle.ledger.specs.Actions.{Action, Name, name, stores}
-use Rattle.ledger.specs.Ledgers.{Entry, Ledger, action_at, update}
+use Rattle.ledger.specs.Actions.{Name, name, stores}
+use Rattle.ledger.specs.Ledgers.{Entry, Ledger, action_at}
 use Rattle.ledger.specs.Moves.{after_drain, after_move, after_moves, after_run, last_of, less_oldest, oldest}
 use Rattle.ledger.specs.Orders.{Lacks}
 use Rattle.ledger.specs.Runs.{Accepted}
-use Rattle.ledger.specs.Tests.{Passes, lists_in, threads}
+use Rattle.ledger.specs.Tests.{Passes, lists_in}
 use Rattle.ledger.specs.declared.moves.Move.{Move}
 use Rattle.ledger.specs.declared.moves.Move.TheVariants.{Run, Drain}
 use Rattle.ledger.proofs.Growing.{Exists, Stored, update_all, update_other, update_same}

@@ -1,12 +1,12 @@
 -- A trace has a sequentially consistent run exactly when it has no ring; and no edge joins an action to itself.
-use Rattle.std.proofs.Common.{◌≡◌, ℕ, zero, suc, ◌+◌, ◌<◌, ◌≤◌, Bool, true, false, ◌&&◌, ◌⊎◌, List, [], ◌∷◌, ◌++◌, length, sym, refl, ap, ◌∙◌, subst, inl, inr, ⊎_elim, arith}
+use Rattle.std.proofs.Common.{◌≡◌, ℕ, zero, suc, ◌<◌, Bool, true, false, ◌&&◌, ◌⊎◌, List, [], ◌∷◌, ◌++◌, length, sym, refl, ap, ◌∙◌, subst, inl, inr, ⊎_elim, arith}
 use Rattle.std.specs.List.{AllByRecursion as All}
 use Rattle.std.proofs.ByRecursion.{All-append}
 use Rattle.std.proofs.lemmas.Bool.{and_parts, cases_lt, or_cases, true≢false}
 use Rattle.program.specs.declared.lines.Line.{Line}
 use Rattle.ledger.specs.Actions.{Action, Name, Source, from, loads, name, same, stores}
 use Rattle.ledger.specs.Edges.{edge, is_action, next_in, trace_of}
-use Rattle.ledger.specs.Ledgers.{Ledger, action_at, start}
+use Rattle.ledger.specs.Ledgers.{Ledger, start}
 use Rattle.ledger.specs.Moves.{ledger_of}
 use Rattle.ledger.specs.Orders.{Order, listed_moves}
 use Rattle.ledger.specs.Tests.{threads}

@@ -1,28 +1,27 @@
 -- A drain over direct adds only edges into the store that drains, which is the latest; so a run gives no ring.
-use Rattle.std.proofs.Common.{◌≡◌, ℕ, ◌+◌, ◌<◌, Bool, true, false, ◌&&◌, eqb, ltb, ◌⊎◌, List, [], ◌∷◌, ◌++◌, length, get_or, Some, None, sym, refl, ap, ◌∙◌, subst, inl, inr, ⊎_elim, arith}
+use Rattle.std.proofs.Common.{◌≡◌, ℕ, ◌+◌, ◌<◌, true, eqb, ltb, ◌⊎◌, List, [], ◌∷◌, ◌++◌, length, get_or, Some, sym, refl, ap, ◌∙◌, subst, inl, inr, ⊎_elim, arith}
 use Rattle.std.specs.List.{AllByRecursion as All}
 use Rattle.std.proofs.lemmas.Bool.{and_from, and_parts, eq-eqb, lt-ltb, ltb-true}
 use Rattle.program.specs.declared.lines.Line.{Line}
 use Rattle.buffers.specs.Kinds.{direct}
 use Rattle.buffers.specs.Laws.{Lawful}
 use Rattle.buffers.specs.Lists.{nothing_waits}
-use Rattle.ledger.specs.Actions.{Access, Name, Source, from, initial, loads, name, none, stores}
-use Rattle.ledger.specs.Edges.{SameTrace, Trace, after_source, edge, first_in, from_reads, is_action, next_in, program_order, reads_from, store_order, trace_of}
-use Rattle.ledger.specs.Ledgers.{Entry, Ledger, action_at, no_action, start, update}
-use Rattle.ledger.specs.Moves.{after_drain, after_move, after_moves, after_run, last_of, less_oldest, ledger_of, oldest}
+use Rattle.ledger.specs.Actions.{Access, Name, Source, from, initial, loads, name, stores}
+use Rattle.ledger.specs.Edges.{SameTrace, Trace, after_source, edge, first_in, is_action, next_in, trace_of}
+use Rattle.ledger.specs.Ledgers.{Entry, Ledger, action_at, no_action, start}
+use Rattle.ledger.specs.Moves.{after_drain, after_move, after_moves, after_run, less_oldest, ledger_of, oldest}
 use Rattle.ledger.specs.Orders.{Lacks}
 use Rattle.ledger.specs.Runs.{Accepted}
 use Rattle.ledger.specs.Tests.{Passes, lists_in}
-use Rattle.ledger.specs.Theorems.{Chained, Ring, RunGivesNoRing}
+use Rattle.ledger.specs.Theorems.{Chained, RunGivesNoRing}
 use Rattle.ledger.specs.declared.moves.Move.{Move}
 use Rattle.ledger.specs.declared.moves.Move.TheVariants.{Run, Drain}
-use Rattle.ledger.proofs.Apart.{EdgeParts, Sort, after_source_one, edge_parts, first_in_push, next_in_both, next_in_cell, next_in_push, next_of_thread, overwritten_by, source_of}
-use Rattle.ledger.proofs.Draining.{drain_finds, sound_drain, sound_move}
-use Rattle.ledger.proofs.Growing.{Exists, Stored, same_self, update_all}
+use Rattle.ledger.proofs.Apart.{EdgeParts, Sort, edge_parts, first_in_push, next_in_cell, next_in_push, next_of_thread, overwritten_by, source_of}
+use Rattle.ledger.proofs.Draining.{drain_finds, sound_move}
+use Rattle.ledger.proofs.Growing.{Exists, same_self, update_all}
 use Rattle.ledger.proofs.Passing.{run_passes}
-use Rattle.ledger.proofs.Ranks.{lacks_has}
 use Rattle.ledger.proofs.Replayed.{by_from_reads, by_program_order, by_reads_from, by_store_order, there_true}
-use Rattle.ledger.proofs.Sound.{Entered, Sound, StoreTo, sound_start}
+use Rattle.ledger.proofs.Sound.{Entered, Sound, sound_start}
 use Rattle.ledger.proofs.Timed.{Timed, later, nothing_waits_from, timed_run}
 use Rattle.ledger.proofs.Waits.{all_less, last_all, oldest_of}
 

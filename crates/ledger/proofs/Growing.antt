@@ -1,8 +1,8 @@
 -- Actions that grow: a new action at the end of a thread's list leaves the others what they were.
-use Rattle.std.proofs.Common.{◌≡◌, ℕ, ◌+◌, ◌<◌, ◌≤◌, Bool, true, false, cond, ◌&&◌, eqb, ◌⊎◌, List, [], ◌∷◌, ◌++◌, length, get_or, sym, refl, ap, ◌∙◌, subst, inl, inr, ⊎_elim, arith}
+use Rattle.std.proofs.Common.{◌≡◌, ℕ, ◌+◌, ◌<◌, true, eqb, ◌⊎◌, List, [], ◌∷◌, ◌++◌, length, get_or, sym, refl, ap, ◌∙◌, subst, inl, inr, ⊎_elim, arith}
 use Rattle.std.proofs.lemmas.List.{get_or_append_left, get_or_push, length_push}
 use Rattle.std.proofs.lemmas.Bool.{and_from, and_parts, cases_eq, cases_lt, cond-false, cond-true, eq-eqb, eqb-true, ne_eqb}
-use Rattle.ledger.specs.Actions.{Access, Action, Name, name, same, stores}
+use Rattle.ledger.specs.Actions.{Action, Name, name, same, stores}
 use Rattle.ledger.specs.Ledgers.{action_at, no_action, update}
 
 module _ {X : Type 0} (f : ℕ → X) (k : ℕ) (x : X) where

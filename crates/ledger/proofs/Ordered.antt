@@ -1,23 +1,22 @@
 -- An order gives a run: all its entries, from the start to the whole trace.
-use Rattle.std.proofs.Common.{◌≡◌, ℕ, zero, suc, ◌+◌, ◌<◌, ◌≤◌, true, List, [], ◌∷◌, ◌++◌, length, get_or, take, sym, refl, ap, ◌∙◌, subst, ⊎_elim, append_assoc, append-nil, arith}
+use Rattle.std.proofs.Common.{◌≡◌, ℕ, zero, suc, ◌<◌, ◌≤◌, List, [], ◌∷◌, ◌++◌, length, get_or, sym, refl, ◌∙◌, subst, append_assoc, append-nil, arith}
 use Rattle.std.specs.List.{ContainsAt as Has}
 use Rattle.std.proofs.ByRecursion.{All-get_or}
 use Rattle.std.proofs.lemmas.List.{take_all}
-use Rattle.std.proofs.lemmas.Bool.{cases_lt}
 use Rattle.program.specs.declared.lines.Line.{Line}
 use Rattle.buffers.specs.Kinds.{direct}
-use Rattle.buffers.specs.Laws.{Lawful, Rules}
+use Rattle.buffers.specs.Laws.{Rules}
 use Rattle.ledger.specs.Actions.{Name, name}
 use Rattle.ledger.specs.Edges.{SameTrace, trace_of}
 use Rattle.ledger.specs.Ledgers.{Ledger, start}
 use Rattle.ledger.specs.Moves.{after_move, after_moves, ledger_of}
-use Rattle.ledger.specs.Orders.{InOrder, Order, entry_moves, listed_moves}
+use Rattle.ledger.specs.Orders.{InOrder, entry_moves, listed_moves}
 use Rattle.ledger.specs.Runs.{Accepted, NothingWaits}
 use Rattle.ledger.specs.Theorems.{OrderGivesRun}
 use Rattle.ledger.specs.declared.moves.Move.{Move}
 use Rattle.ledger.proofs.Draining.{sound_moves}
 use Rattle.ledger.proofs.Growing.{Exists}
-use Rattle.ledger.proofs.Replayed.{Part, fewer, placed_rank, shorter, there_from, there_true}
+use Rattle.ledger.proofs.Replayed.{Part, placed_rank, there_from, there_true}
 use Rattle.ledger.proofs.Sound.{Sound, StoreTo, sound_start}
 use Rattle.ledger.proofs.Stepping.{entry_step}
 

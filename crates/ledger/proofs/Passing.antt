@@ -1,5 +1,5 @@
 -- What a move that passes its tests has passed.
-use Rattle.std.proofs.Common.{◌≡◌, ℕ, ◌+◌, ◌<◌, Bool, true, false, not, eqb, leb, List, length, Some, None, Option, sym, refl, ap, ◌∙◌, arith}
+use Rattle.std.proofs.Common.{◌≡◌, ℕ, ◌<◌, Bool, true, false, not, eqb, leb, List, length, Some, None, Option, refl, ap, ◌∙◌, arith}
 use Rattle.std.specs.List.{slice_get}
 use Rattle.std.proofs.lemmas.Bool.{eqb-true, leb-false, not-false, not_from_true, lt-leb, eq-eqb}
 use Rattle.refusal.specs.declared.Refusal.{Refusal}
@@ -7,7 +7,7 @@ use Rattle.refusal.specs.declared.Refusal.TheVariants.{ThreadOutOfRange, NoSuchI
 use Rattle.program.specs.declared.lines.Line.{Line}
 use Rattle.buffers.specs.Laws.{Rules}
 use Rattle.ledger.specs.Ledgers.{Ledger}
-use Rattle.ledger.specs.Tests.{Passes, form_tested, guard, how_many, line_tested, lists_in, tested}
+use Rattle.ledger.specs.Tests.{Passes, form_tested, guard, how_many, line_tested, lists_in}
 use Rattle.ledger.specs.declared.moves.Move.TheVariants.{Run, Drain}
 
 -- A chain of tests answers none exactly where each of them is passed.

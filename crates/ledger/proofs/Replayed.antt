@@ -1,17 +1,17 @@
 -- An order gives a run: its actions, one after another over direct, lead to the same trace.
-use Rattle.std.proofs.Common.{◌≡◌, ℕ, zero, suc, ◌+◌, ◌<◌, ◌≤◌, Bool, true, false, ◌&&◌, ◌||◌, eqb, ltb, ◌⊎◌, List, [], ◌∷◌, ◌++◌, map, length, get_or, take, Some, None, Option, sym, refl, ap, ◌∙◌, subst, inl, inr, ⊎_elim, append-nil, arith}
-use Rattle.std.specs.List.{ContainsAt as Has, AllByRecursion as All}
-use Rattle.std.proofs.ByRecursion.{All-get_or, has_get_or}
+use Rattle.std.proofs.Common.{◌≡◌, ℕ, zero, suc, ◌+◌, ◌<◌, ◌≤◌, Bool, true, ◌&&◌, ◌||◌, eqb, List, length, get_or, take, Some, None, sym, refl, ap, ◌∙◌, subst, ⊎_elim, arith}
+use Rattle.std.specs.List.{ContainsAt as Has}
+use Rattle.std.proofs.ByRecursion.{All-get_or}
 use Rattle.std.proofs.lemmas.List.{get_or-take, length-take, nil_from_length}
 use Rattle.std.proofs.lemmas.Bool.{and_from, cases_lt, eq-eqb, lt-ltb, ltb-true, or_left, or_right}
 use Rattle.program.specs.declared.lines.Line.{Line}
-use Rattle.ledger.specs.Actions.{Access, Action, Name, Source, from, initial, loads, name, none, same, stores}
-use Rattle.ledger.specs.Edges.{Trace, edge, first_in, from_reads, is_action, is_source, next_in, program_order, reads_from, store_order, trace_of}
+use Rattle.ledger.specs.Actions.{Access, Name, Source, from, initial, loads, name, stores}
+use Rattle.ledger.specs.Edges.{Trace, edge, from_reads, is_action, is_source, next_in, program_order, reads_from, store_order, trace_of}
 use Rattle.ledger.specs.Ledgers.{Ledger, action_at, no_action}
 use Rattle.ledger.specs.Moves.{in_memory, last_of}
 use Rattle.ledger.specs.Orders.{Lacks, Ready}
 use Rattle.ledger.specs.Runs.{NothingWaits}
-use Rattle.ledger.proofs.Growing.{Exists, Stored, same_self}
+use Rattle.ledger.proofs.Growing.{Exists, same_self}
 use Rattle.ledger.proofs.Ranks.{first_at, lacks_has, last_take, next_at, one_rank}
 use Rattle.ledger.proofs.Sound.{Sound, StoreTo, held}
 use Rattle.ledger.proofs.Waits.{AtPosition}

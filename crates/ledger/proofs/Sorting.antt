@@ -1,10 +1,10 @@
 -- A trace without a ring has an order: place what is ready, until nothing is left; if something is left and nothing is
 -- ready, going back from one to what blocks it must come round.
-use Rattle.std.proofs.Common.{◌≡◌, ℕ, zero, suc, ◌+◌, ◌<◌, ◌≤◌, Bool, true, false, cond, not, ◌&&◌, ◌⊎◌, List, [], ◌∷◌, ◌++◌, length, filter, sym, refl, ap, ◌∙◌, subst, inl, inr, ⊎_elim, append_assoc, append-nil, suc-le-suc, le_of_suc-le-suc, arith, length-append}
+use Rattle.std.proofs.Common.{◌≡◌, ℕ, zero, suc, ◌+◌, ◌<◌, ◌≤◌, Bool, true, false, cond, not, ◌&&◌, ◌⊎◌, List, [], ◌∷◌, ◌++◌, length, filter, sym, refl, ap, ◌∙◌, subst, inl, inr, ⊎_elim, append_assoc, suc-le-suc, arith, length-append}
 use Rattle.std.specs.List.{ContainsAt as Has, AllByRecursion as All}
-use Rattle.std.proofs.ByRecursion.{All-append, all_kept_by, All-push, All-weaker, has_append_left, has_push}
+use Rattle.std.proofs.ByRecursion.{all_kept_by, All-push, has_append_left, has_push}
 use Rattle.std.proofs.lemmas.Bool.{and_parts, both_ways, true≢false}
-use Rattle.ledger.specs.Actions.{Name, name, same}
+use Rattle.ledger.specs.Actions.{Name, same}
 use Rattle.ledger.specs.Edges.{Trace, edge, is_action}
 use Rattle.ledger.specs.Orders.{InOrder, Lacks, Ready}
 use Rattle.ledger.specs.Theorems.{Chained, Ring}

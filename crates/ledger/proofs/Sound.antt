@@ -1,19 +1,19 @@
 -- What holds of every ledger that accepted moves lead to, over every kind.
-use Rattle.std.proofs.Common.{◌≡◌, ℕ, ◌+◌, ◌<◌, ◌≤◌, Bool, true, false, ◌⊎◌, List, [], ◌∷◌, ◌++◌, map, length, get_or, take, Some, None, Option, sym, refl, ap, ◌∙◌, subst, inl, inr, ⊎_elim, append-nil, arith}
+use Rattle.std.proofs.Common.{◌≡◌, ℕ, ◌<◌, ◌≤◌, ◌⊎◌, List, [], ◌∷◌, ◌++◌, length, get_or, take, Some, None, Option, sym, refl, ap, ◌∙◌, subst, inl, inr, ⊎_elim, append-nil, arith}
 use Rattle.std.specs.List.{slice_get, ContainsAt as Has, AllByRecursion as All}
-use Rattle.std.proofs.ByRecursion.{All-append, All-get_or, all-has, All-push, All-weaker, has_append_left, has_push}
-use Rattle.std.proofs.lemmas.List.{get_or_append_left, get_or_push, length_push, take_all, take-append-le, take_at}
+use Rattle.std.proofs.ByRecursion.{All-append, All-weaker}
+use Rattle.std.proofs.lemmas.List.{get_or_append_left, get_or_push, length_push, take-append-le, take_at}
 use Rattle.std.proofs.lemmas.Bool.{cases_eq, cases_lt}
 use Rattle.program.specs.declared.forms.Instruction.{Instruction}
 use Rattle.program.specs.declared.forms.Instruction.TheVariants.{Load, Store, Fence, Compute, Assert}
 use Rattle.program.specs.declared.lines.Line.{Line}
 use Rattle.buffers.specs.Laws.{Rules}
 use Rattle.ledger.specs.Actions.{Access, Action, Name, Source, from, initial, loads, name, none, stores}
-use Rattle.ledger.specs.Ledgers.{Entry, Ledger, Local, action_at, no_action, operand, start, update}
-use Rattle.ledger.specs.Moves.{Read, act, action_of, added, asked, forwarded, in_memory, issued, last_of, ran, read, youngest}
+use Rattle.ledger.specs.Ledgers.{Entry, Ledger, action_at, no_action, operand, start}
+use Rattle.ledger.specs.Moves.{act, action_of, added, asked, forwarded, in_memory, issued, last_of, ran, read, youngest}
 use Rattle.ledger.specs.Orders.{Lacks}
 use Rattle.ledger.specs.Tests.{how_many}
-use Rattle.ledger.proofs.Growing.{Exists, Grown, Stored, grown, more, more_here, name_is, new, new_exists, new_is, old_or_new, stored_grown, update_all, update_other, update_same}
+use Rattle.ledger.proofs.Growing.{Exists, Grown, Stored, grown, more_here, new, new_exists, new_is, old_or_new, stored_grown, update_all, update_other, update_same}
 use Rattle.ledger.proofs.Locals.{Right, act_line, local, local_push, moved, passes_empty}
 use Rattle.ledger.proofs.Passing.{RunPasses}
 use Rattle.ledger.proofs.Counts.{one_more}

@@ -1,6 +1,6 @@
 -- An order gives a run, one entry after another.
-use Rattle.std.proofs.Common.{◌≡◌, ℕ, zero, suc, ◌+◌, ◌<◌, ◌≤◌, Bool, true, false, cond, ◌&&◌, eqb, ltb, leb, ◌⊎◌, List, [], ◌∷◌, ◌++◌, map, length, get_or, take, is_some, Some, None, Option, sym, refl, ap, ◌∙◌, subst, inl, inr, ⊎_elim, append_assoc, append-nil, arith}
-use Rattle.std.specs.List.{slice_get, ContainsAt as Has, AllByRecursion as All}
+use Rattle.std.proofs.Common.{◌≡◌, ℕ, ◌+◌, ◌<◌, true, cond, ltb, leb, List, [], ◌∷◌, ◌++◌, map, length, get_or, take, is_some, Some, None, sym, refl, ap, ◌∙◌, subst, ⊎_elim, arith}
+use Rattle.std.specs.List.{slice_get, ContainsAt as Has}
 use Rattle.std.proofs.ByRecursion.{has_append_left, has_push, has_push_cases}
 use Rattle.std.proofs.lemmas.List.{length_push, take_more}
 use Rattle.std.proofs.lemmas.Bool.{and_from, cases_eq, cases_lt, eq-eqb, leb-false, lt-ltb}
@@ -9,18 +9,18 @@ use Rattle.program.specs.declared.forms.Instruction.{Instruction}
 use Rattle.program.specs.declared.forms.Instruction.TheVariants.{Load, Store, Fence, Compute, Assert}
 use Rattle.program.specs.declared.lines.Line.{Line}
 use Rattle.buffers.specs.Kinds.{direct}
-use Rattle.buffers.specs.Lists.{Lists, list_of, none_of, nothing_waits, waits_to}
-use Rattle.ledger.specs.Actions.{Access, Action, Name, Source, from, initial, loads, name, none, stores}
+use Rattle.buffers.specs.Lists.{none_of, nothing_waits, waits_to}
+use Rattle.ledger.specs.Actions.{Access, Action, Name, Source, loads, name, none, stores}
 use Rattle.ledger.specs.Edges.{edge, trace_of}
-use Rattle.ledger.specs.Ledgers.{Entry, Ledger, Local, action_at, no_action, operand, update}
+use Rattle.ledger.specs.Ledgers.{Entry, Ledger, action_at, no_action, operand}
 use Rattle.ledger.specs.Moves.{Read, act, action_of, added, after_drain, after_move, after_moves, after_run, asked, forwarded, in_memory, issued, last_of, less_oldest, oldest, read, youngest}
 use Rattle.ledger.specs.Orders.{Lacks, Ready, drained_after, entry_moves}
 use Rattle.ledger.specs.Runs.{Accepted, NothingWaits}
-use Rattle.ledger.specs.Tests.{Passes, form_tested, guard, how_many, lists_in, threads}
+use Rattle.ledger.specs.Tests.{Passes, form_tested, guard, lists_in, threads}
 use Rattle.ledger.specs.declared.moves.Move.TheVariants.{Run, Drain}
 use Rattle.ledger.proofs.Counts.{one_less}
 use Rattle.ledger.proofs.Draining.{list_in, sound_drain}
-use Rattle.ledger.proofs.Growing.{Exists, grown, more_here, name_is, new, new_exists, old_or_new, update_all, update_other, update_same}
+use Rattle.ledger.proofs.Growing.{Exists, grown, name_is, new, new_exists, old_or_new, update_all, update_other, update_same}
 use Rattle.ledger.proofs.Locals.{Right, local}
 use Rattle.ledger.proofs.Passing.{DrainPasses, RunPasses, guard_passed, passes_drain, passes_run}
 use Rattle.ledger.proofs.Replayed.{Part, b_next, b_rank, b_within, finds, shorter}

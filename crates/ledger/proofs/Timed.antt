@@ -1,23 +1,21 @@
 -- A run gives no ring: over direct every edge goes forward in time.
-use Rattle.std.proofs.Common.{◌≡◌, ℕ, zero, suc, ◌+◌, ◌<◌, ◌≤◌, Bool, true, false, cond, ◌&&◌, eqb, ltb, ◌⊎◌, List, [], ◌∷◌, ◌++◌, map, length, get_or, Some, None, Option, sym, refl, ap, ◌∙◌, subst, inl, inr, ⊎_elim, arith}
-use Rattle.std.specs.List.{slice_get, ContainsAt as Has, AllByRecursion as All}
-use Rattle.std.proofs.ByRecursion.{All-append, All-weaker}
-use Rattle.std.proofs.lemmas.Bool.{and_from, and_parts, cases_eq, cases_lt, cond-false, cond-true, eq-eqb, true≢false}
+use Rattle.std.proofs.Common.{◌≡◌, ℕ, ◌+◌, ◌<◌, ◌≤◌, Bool, true, false, cond, eqb, List, [], ◌∷◌, ◌++◌, map, length, Some, None, Option, sym, refl, ap, ◌∙◌, subst, ⊎_elim, arith}
+use Rattle.std.specs.List.{AllByRecursion as All}
+use Rattle.std.proofs.lemmas.Bool.{and_from, and_parts, cases_lt, cond-false, cond-true, eq-eqb, true≢false}
 use Rattle.program.specs.declared.forms.Instruction.{Instruction}
 use Rattle.program.specs.declared.forms.Instruction.TheVariants.{Load, Store, Fence, Compute, Assert}
 use Rattle.program.specs.declared.lines.Line.{Line}
 use Rattle.buffers.specs.Kinds.{direct}
 use Rattle.buffers.specs.Lists.{none_of, nothing_waits}
-use Rattle.ledger.specs.Actions.{Access, Action, Name, Source, from, initial, loads, name, none, same, stores}
-use Rattle.ledger.specs.Edges.{Trace, after_source, edge, first_in, is_action, next_in, trace_of}
-use Rattle.ledger.specs.Ledgers.{Entry, Ledger, action_at, operand, update}
-use Rattle.ledger.specs.Moves.{act, action_of, added, after_drain, asked, forwarded, in_memory, issued, last_of, less_oldest, oldest, read, youngest}
-use Rattle.ledger.specs.Orders.{Lacks}
+use Rattle.ledger.specs.Actions.{Access, Action, Name, Source, from, loads, name, none, same, stores}
+use Rattle.ledger.specs.Edges.{after_source, edge, first_in, trace_of}
+use Rattle.ledger.specs.Ledgers.{Entry, Ledger, action_at, operand}
+use Rattle.ledger.specs.Moves.{act, action_of, added, asked, forwarded, in_memory, issued, last_of, read, youngest}
 use Rattle.ledger.specs.Runs.{NothingWaits}
 use Rattle.ledger.specs.Tests.{lists_in, threads}
-use Rattle.ledger.proofs.Apart.{EdgeParts, Sort, after_source_one, edge_parts, first_in_push, next_in_both, next_in_cell, next_in_push, next_of_thread, none_after_last, overwritten_by, source_of}
+use Rattle.ledger.proofs.Apart.{Sort, after_source_one, edge_parts, next_in_both, next_in_cell, next_of_thread, none_after_last, overwritten_by, source_of}
 use Rattle.ledger.proofs.Counts.{Among, a_thread}
-use Rattle.ledger.proofs.Growing.{Exists, Stored, grown, name_is, new, new_exists, new_is, old_or_new, same_self, same_true, update_all, update_other, update_same}
+use Rattle.ledger.proofs.Growing.{Exists, grown, new, new_is, old_or_new, same_self, same_true, update_all}
 use Rattle.ledger.proofs.Passing.{RunPasses}
 use Rattle.ledger.proofs.Replayed.{by_from_reads, by_program_order, by_reads_from, by_store_order, there_true}
 use Rattle.ledger.proofs.Sound.{Entered, Sound, StoreTo, new_source}

@@ -4,7 +4,7 @@
 -- next_in names a b    b stands next after a in the list
 -- first_in names a     a stands first in it
 -- edge              one action happens directly before another: by program order, store order, reads-from or from-reads
-use Rattle.std.specs.Prelude.{◌≡◌, ℕ, ◌+◌, Bool, true, false, ◌&&◌, ◌||◌, List, [], ◌∷◌, length, ◌==◌, nat_lt}
+use Rattle.std.specs.Prelude.{◌≡◌, ℕ, ◌+◌, Bool, false, ◌&&◌, ◌||◌, List, [], ◌∷◌, length, ◌==◌, nat_lt}
 use Rattle.ledger.specs.Actions.{Access, Action, Name, Source, from, initial, loads, none, same, stores}
 use Rattle.ledger.specs.Ledgers.{Ledger, action_at}
 

@@ -6,7 +6,7 @@
 use Rattle.std.specs.Prelude.{◌≡◌, ℕ, Bool, true, cond, not, ◌&&◌, ◌||◌, List, [], ◌∷◌, ◌++◌, length, Some, None, Option, ◌==◌}
 use Rattle.program.specs.declared.lines.Line.{Line}
 use Rattle.buffers.specs.Kinds.{per_cell, queue}
-use Rattle.ledger.specs.Actions.{Access, Name, Source, from, initial, loads, name, none, stores}
+use Rattle.ledger.specs.Actions.{Access, Name, from, initial, loads, name, none, stores}
 use Rattle.ledger.specs.Answers.{after_offers}
 use Rattle.ledger.specs.Edges.{Trace, from_reads, next_in, program_order, reads_from, store_order}
 use Rattle.ledger.specs.Ledgers.{Entry, Ledger, action_at, start, update}

@@ -7,7 +7,7 @@
 -- after_drain         the thread's oldest waiting store to the cell goes to the end of that cell's list, and its value into the cell
 -- after_move          either, by the move
 -- ledger_of           what a list of moves comes to
-use Rattle.std.specs.Prelude.{ℕ, Bool, cond, List, [], ◌∷◌, ◌++◌, length, Some, None, Option, ◌==◌}
+use Rattle.std.specs.Prelude.{ℕ, cond, List, [], ◌∷◌, ◌++◌, length, Some, None, Option, ◌==◌}
 use Rattle.std.specs.List.{slice_get}
 use Rattle.program.specs.Operations.{result_of}
 use Rattle.program.specs.declared.forms.Instruction.{Instruction}

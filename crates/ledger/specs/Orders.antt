@@ -6,7 +6,7 @@
 -- entry-moves, listed-moves   an action as moves: its run, and directly after it the drain, if it is a store
 use Rattle.std.specs.Prelude.{◌≡◌, ℕ, true, List, [], ◌∷◌, ◌++◌, ◌≢◌}
 use Rattle.std.specs.List.{ContainsAt as Has, AllByRecursion as All}
-use Rattle.ledger.specs.Actions.{Access, Action, Name, loads, none, stores}
+use Rattle.ledger.specs.Actions.{Access, Name, loads, none, stores}
 use Rattle.ledger.specs.Edges.{Trace, edge, is_action}
 use Rattle.ledger.specs.Ledgers.{action_at}
 use Rattle.ledger.specs.declared.moves.Move.{Move}

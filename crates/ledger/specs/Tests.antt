@@ -4,7 +4,7 @@
 -- how_many l         the number of actions
 -- tested             the refusal of a move, if it is refused
 -- Passes             it is not
-use Rattle.std.specs.Prelude.{◌≡◌, ℕ, ◌+◌, Bool, true, false, not, ◌||◌, List, [], ◌∷◌, map, length, Some, None, Option, ◌==◌, nat_le}
+use Rattle.std.specs.Prelude.{◌≡◌, ℕ, ◌+◌, Bool, true, false, not, List, [], ◌∷◌, map, length, Some, None, Option, ◌==◌, nat_le}
 use Rattle.std.specs.List.{slice_get}
 use Rattle.refusal.specs.declared.Refusal.{Refusal}
 use Rattle.refusal.specs.declared.Refusal.TheVariants.{ThreadOutOfRange, NoSuchInstruction, AtAnotherLabel, RunFull, ThreadNotFree, FenceBeforeDrain, CellOutOfRange, AssertFailed, BufferFull, DrainNotFree}
@@ -13,7 +13,7 @@ use Rattle.program.specs.declared.forms.Instruction.TheVariants.{Load, Store, Fe
 use Rattle.program.specs.declared.lines.Line.{Line}
 use Rattle.buffers.specs.Laws.{Rules}
 use Rattle.buffers.specs.Lists.{Lists}
-use Rattle.ledger.specs.Ledgers.{Entry, Ledger, operand}
+use Rattle.ledger.specs.Ledgers.{Ledger, operand}
 use Rattle.ledger.specs.declared.moves.Move.{Move}
 use Rattle.ledger.specs.declared.moves.Move.TheVariants.{Run, Drain}
 

@@ -5,8 +5,7 @@
 -- mixed       thread 0 adds 2 and 3 into register 1 (0), stores that to cell 15 (1), fences (2), loads cell 15 into register 2 (3)
 --             and asserts it (4); then, all at label 5, it may load cell 16 (5), store to cell 16 (6) or assert 0 (7)
 -- filling     thread 0 stores 1 to cell 0 (0) again and again
-use Rattle.std.specs.Prelude.{◌≡◌, ℕ, ◌+◌, Bool, true, false, List, [], ◌∷◌, Ok, Err, Result}
-use Rattle.refusal.specs.declared.Refusal.{Refusal}
+use Rattle.std.specs.Prelude.{◌≡◌, ℕ, ◌+◌, Bool, true, false, List, [], ◌∷◌, Ok, Err}
 use Rattle.refusal.specs.declared.Refusal.TheVariants.{ThreadOutOfRange, NoSuchInstruction, AtAnotherLabel, ThreadNotFree, FenceBeforeDrain, CellOutOfRange, AssertFailed, BufferFull, DrainNotFree}
 use Rattle.program.specs.declared.forms.Instruction.{Instruction}
 use Rattle.program.specs.declared.forms.Instruction.TheVariants.{Load, Store, Fence, Compute, Assert}

@@ -1,5 +1,6 @@
 // Judges two runs of 256 actions, the most that a run has, as often as its argument says: for counting what a judgement costs.
 #![tactic(auto)]
+
 use anyhow::anyhow;
 use buffers::Queue;
 use ledger::Move;

@@ -2,7 +2,7 @@
 use Rattle.std.proofs.Common.{◌≡◌, ℕ, ◌<◌, Bool, true, false, ◌&&◌, ◌||◌, ltb, List, [], ◌∷◌, length, get_or, Some, sym, refl, ap, ◌∙◌, subst, ⊎_elim}
 use mathlib.Core.Path.{fun_ext}
 use Rattle.std.specs.List.{AllByRecursion as All}
-use Rattle.std.proofs.lemmas.List.{get_or-map, length-map}
+use Rattle.std.proofs.lemmas.List.{get_or-map}
 use Rattle.std.proofs.lemmas.Bool.{and_from, and_parts, cond-false, cond-true, eq-eqb, eqb-true, ltb-true, or_cases, true≢false}
 use Rattle.program.specs.declared.lines.Line.{Line}
 use Rattle.ledger.specs.Actions.{Access, Name, Source, from, initial, loads, name, none, same, stores}
@@ -10,13 +10,13 @@ use Rattle.ledger.specs.Edges.{after_source, edge, from_reads, is_action, next_i
 use Rattle.ledger.specs.Ledgers.{Ledger, action_at, no_action}
 use Rattle.ledger.specs.Nodes.{node_joins, nodes, nodes_of}
 use Rattle.ledger.specs.Orders.{Lacks}
-use Rattle.ledger.specs.Tests.{how_many, sum_over, threads}
+use Rattle.ledger.specs.Tests.{threads}
 use Rattle.ledger.proofs.Apart.{after_source_one, next_in_both}
 use Rattle.ledger.proofs.Growing.{Exists, same_true}
 use Rattle.ledger.proofs.Sound.{NoTwice, Sound, StoreTo}
 use Rattle.present.proofs.Running.{kept_length}
 use Rattle.present.specs.Agreement.{Agrees, overwrote}
-use Rattle.present.specs.Data.{Held, how_many_in, noted_at, nothing_noted, stores_to}
+use Rattle.present.specs.Data.{Held, noted_at, nothing_noted, stores_to}
 use Rattle.present.specs.Joins.{is_noted, is_over, joined_by, joined_in, node_joined, nodes_in, over_source, source_overwritten}
 
 -- Two tests are the same where each holds if the other does.

@@ -1,23 +1,22 @@
 -- A replay in step with the ledger stays in step, and is judged by the edges of the trace.
-use Rattle.std.proofs.Common.{◌≡◌, ℕ, ◌<◌, false, leb, List, [], ◌∷◌, ◌++◌, Some, None, Option, sym, refl, ap, ◌∙◌, subst, arith}
+use Rattle.std.proofs.Common.{◌≡◌, ℕ, ◌<◌, leb, List, [], ◌∷◌, Some, None, Option, sym, refl, ap, ◌∙◌, subst}
 use Rattle.std.proofs.lemmas.Bool.{leb-false}
 use Rattle.refusal.specs.declared.Refusal.{Refusal}
 use Rattle.refusal.specs.declared.Refusal.TheVariants.{ThreadOutOfRange}
 use Rattle.program.specs.declared.lines.Line.{Line}
 use Rattle.buffers.specs.Laws.{Lawful, Rules}
-use Rattle.ledger.specs.Answers.{after_offer, answer, answered, moved_by, outcome}
-use Rattle.ledger.specs.Edges.{trace_of}
+use Rattle.ledger.specs.Answers.{answer, answered, outcome}
 use Rattle.ledger.specs.Ledgers.{Ledger, start}
-use Rattle.ledger.specs.Moves.{after_move, after_moves, ledger_of}
+use Rattle.ledger.specs.Moves.{after_move, ledger_of}
 use Rattle.ledger.specs.Runs.{Accepted}
 use Rattle.ledger.specs.Tests.{Passes, tested}
 use Rattle.ledger.specs.declared.moves.Move.{Move}
 use Rattle.ledger.specs.declared.moves.Move.TheVariants.{Run, Drain}
 use Rattle.ledger.proofs.Draining.{sound_moves}
 use Rattle.ledger.proofs.Ordered.{accepted_append, after_append}
-use Rattle.ledger.proofs.Passing.{guard_passed, run_passes}
+use Rattle.ledger.proofs.Passing.{guard_passed}
 use Rattle.ledger.proofs.Sound.{Sound, sound_start}
-use Rattle.present.specs.Agreement.{Agrees, Tracks}
+use Rattle.present.specs.Agreement.{Agrees}
 use Rattle.present.specs.Calls.{after_move_held, after_offer_held, answer_held, kept_by, outcome_held, tested_held}
 use Rattle.present.specs.Data.{Held}
 use Rattle.present.specs.Theorems.{InStep, Theorems, joined_by_offer, offered}

@@ -1,13 +1,12 @@
 -- The oldest store that kept actions leave waiting, and what drained stores overwrote: facts of lists alone.
-use Rattle.std.proofs.Common.{◌≡◌, ℕ, zero, suc, ◌+◌, ◌<◌, Bool, true, false, cond, eqb, List, [], ◌∷◌, ◌++◌, map, length, get_or, set, Some, None, Option, sym, refl, ap, ◌∙◌, suc-le-suc, add-zero, arith}
+use Rattle.std.proofs.Common.{◌≡◌, ℕ, zero, suc, ◌+◌, ◌<◌, Bool, true, false, cond, eqb, List, [], ◌∷◌, ◌++◌, map, length, get_or, Some, None, Option, sym, refl, ap, ◌∙◌, suc-le-suc, add-zero, arith}
 use Rattle.std.proofs.lemmas.Bool.{cond-false, cond-true, eqb-true}
 use Rattle.buffers.specs.Calls.{store}
 use Rattle.buffers.specs.Lists.{oldest_to, without_oldest}
 use Rattle.ledger.specs.Actions.{Access, Name, Source, from, initial, loads, none, same, stores}
-use Rattle.ledger.specs.Ledgers.{Entry, Ledger, update}
+use Rattle.ledger.specs.Ledgers.{Entry, Ledger}
 use Rattle.ledger.specs.Moves.{in_memory, last_of, less_oldest, oldest}
 use Rattle.ledger.specs.Orders.{Lacks}
-use Rattle.ledger.specs.Tests.{threads}
 use Rattle.ledger.proofs.Growing.{same_self, same_true}
 use Rattle.present.specs.Agreement.{entries, left_of, overwrote}
 use Rattle.present.specs.Calls.{overwriting}

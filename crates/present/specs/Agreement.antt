@@ -5,15 +5,15 @@
 --                   ledger's does; the actions that are left waiting, and the lists of the buffer, are the ledger's waiting stores;
 --                   and each drained store knows what it overwrote
 -- Tracks ls ms h    the threads that are kept as delaying are those that delayed
-use Rattle.std.specs.Prelude.{◌≡◌, ℕ, ◌+◌, ◌<◌, cond, List, [], ◌∷◌, ◌++◌, length, get_or, Some, None, Option}
+use Rattle.std.specs.Prelude.{◌≡◌, ℕ, ◌+◌, ◌<◌, cond, List, [], ◌∷◌, ◌++◌, length, Some, None, Option}
 use Rattle.program.specs.declared.lines.Line.{Line}
-use Rattle.ledger.specs.Actions.{Name, Source, from, initial, name, same, stores}
+use Rattle.ledger.specs.Actions.{Name, Source, from, initial, same, stores}
 use Rattle.ledger.specs.Delays.{delays}
 use Rattle.ledger.specs.Ledgers.{Entry, Ledger, start}
 use Rattle.ledger.specs.Moves.{in_memory, issued, last_of}
 use Rattle.ledger.specs.Tests.{lists_in}
 use Rattle.ledger.specs.declared.moves.Move.{Move}
-use Rattle.present.specs.Data.{Held, Noted, actions_in, noted_at, nothing_noted}
+use Rattle.present.specs.Data.{Held, Noted, actions_in, noted_at}
 
 abbrev pub left_of : ℕ → Noted → Option Source → List Entry
 left_of i x None = issued i x.action.value x.action.access

@@ -8,7 +8,7 @@
 -- left-waiting c x  the kept action is a store to the cell c, and was not drained: the actions leave it waiting
 -- oldest_left       the position of the oldest such action of a thread, positions counted from i
 -- youngest_left     of the youngest
-use Rattle.std.specs.Prelude.{ℕ, ◌+◌, Bool, true, false, cond, not, ◌&&◌, List, [], ◌∷◌, map, length, is_some, Some, None, Option, ◌==◌, slice_index_or}
+use Rattle.std.specs.Prelude.{ℕ, ◌+◌, Bool, false, cond, not, ◌&&◌, List, [], ◌∷◌, map, length, is_some, Some, None, Option, ◌==◌, slice_index_or}
 use Rattle.buffers.specs.Calls.{no_stores}
 use Rattle.buffers.specs.Lists.{Lists, else_this, list_of}
 use Rattle.buffers.specs.declared.store.Store.{Store}

@@ -7,7 +7,7 @@ use Rattle.std.specs.Prelude.{◌≡◌, ℕ, List, [], ◌∷◌, ◌++◌, Som
 use Rattle.refusal.specs.declared.Refusal.{Refusal}
 use Rattle.program.specs.declared.lines.Line.{Line}
 use Rattle.buffers.specs.Laws.{Lawful, Rules}
-use Rattle.ledger.specs.Answers.{after_offer, outcome}
+use Rattle.ledger.specs.Answers.{outcome}
 use Rattle.ledger.specs.Delays.{delaying}
 use Rattle.ledger.specs.Edges.{trace_of}
 use Rattle.ledger.specs.Ledgers.{start}

@@ -1,5 +1,6 @@
 // Judges the recording on standard input, and prints the verdict or the fault.
 #![tactic(auto)]
+
 use anyhow::anyhow;
 use recording::print_recording;
 use std::io::{Read, Write};

@@ -1,5 +1,6 @@
 // The table of worked runs: what small programs come to, worked out by hand from the rules.
 #![tactic(auto)]
+
 ghost use Rattle.worked.specs.Recorded.{Recorded};
 ghost use Rattle.worked.specs.Table.{Table};
 
