@@ -12,7 +12,7 @@ use Rattle.program.specs.declared.lines.Line.{Line}
 use Rattle.ledger.specs.declared.moves.Move.{Move}
 use Rattle.ledger.specs.declared.moves.Move.TheVariants.{Run as Runs, Drain as Drains}
 use Rattle.recording.specs.Layout.{first_record, size}
-use Rattle.recording.specs.Meaning.{Reading, adding, begun, fault, line_at, line_tested, moving, read_from, reading, records}
+use Rattle.recording.specs.Meaning.{Reading, adding, fault, line_at, line_tested, moving, read_from, reading, records}
 use Rattle.recording.specs.Verdicts.{fault_at}
 use Rattle.recording.specs.declared.faults.Failure.{Failure}
 use Rattle.recording.specs.declared.faults.Failure.TheVariants.{At, Memory}

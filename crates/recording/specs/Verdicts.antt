@@ -15,7 +15,7 @@ use Rattle.replay.specs.Names.{name_of}
 use Rattle.replay.specs.Truth.{TrueVerdict}
 use Rattle.replay.specs.declared.names.Name.{Name}
 use Rattle.replay.specs.declared.verdicts.Verdict.{Verdict}
-use Rattle.recording.specs.Meaning.{Reading, fault, reading, whole}
+use Rattle.recording.specs.Meaning.{Reading, fault, whole}
 use Rattle.recording.specs.declared.faults.Failure.{Failure}
 use Rattle.recording.specs.declared.faults.Failure.TheVariants.{At, Memory}
 use Rattle.recording.specs.declared.faults.Fault.{Fault}

@@ -1,5 +1,5 @@
 -- What the steps of an offered move come to, over what the replay holds.
-use Rattle.std.proofs.Common.{◌≡◌, ℕ, ◌+◌, ◌<◌, ◌≤◌, Bool, true, false, cond, not, ◌||◌, eqb, leb, List, [], ◌∷◌, ◌++◌, length, get_or, Some, None, Ok, Err, Option, Result, sym, refl, ap, ◌∙◌, subst, arith, length-set}
+use Rattle.std.proofs.Common.{◌≡◌, ℕ, ◌+◌, ◌<◌, ◌≤◌, Bool, true, false, cond, not, eqb, leb, List, [], ◌∷◌, ◌++◌, length, Some, None, Ok, Err, Option, Result, sym, refl, ap, ◌∙◌, arith, length-set}
 use mathlib.Core.Path.{fun_ext}
 use Rattle.std.specs.List.{slice_get}
 use Rattle.std.specs.Option.{ok_or}
@@ -14,13 +14,12 @@ use Rattle.buffers.specs.Laws.{Rules}
 use Rattle.buffers.specs.Lists.{Lists}
 use Rattle.ledger.specs.Actions.{Action as Action'}
 use Rattle.ledger.specs.Answers.{answered}
-use Rattle.ledger.specs.Ledgers.{update}
 use Rattle.ledger.specs.Tests.{guard, sum_over, threads}
 use Rattle.ledger.specs.declared.moves.Move.{Move}
-use Rattle.ledger.specs.declared.moves.Move.TheVariants.{Run, Drain}
+use Rattle.ledger.specs.declared.moves.Move.TheVariants.{Run}
 use Rattle.ledger.proofs.Counts.{one_more}
 use Rattle.ledger.proofs.Growing.{update_all, update_other, update_same}
-use Rattle.present.specs.Calls.{after_move_held, after_offer_held, after_run_held, answer_held, form_tested_held, kept_by, line_tested_held, noted_drain, noted_run, outcome_held, overwriting, put_in, ran_with, run_value_held, tested_held}
+use Rattle.present.specs.Calls.{after_move_held, after_run_held, answer_held, form_tested_held, kept_by, line_tested_held, noted_drain, overwriting, put_in, ran_with, run_value_held, tested_held}
 use Rattle.present.specs.Data.{Held, Noted, Present, how_many_in, left_waiting, oldest_left, waiting_of}
 use Rattle.replay.specs.Offers.{Offered, acting, held_after}
 use Rattle.replay.specs.declared.actions.Action.{Action}

@@ -1,5 +1,5 @@
 -- What judging finds among the kept actions of a replay in step with the ledger is a true verdict.
-use Rattle.std.proofs.Common.{◌≡◌, ℕ, ◌<◌, ◌≤◌, Bool, true, false, not, ltb, List, [], ◌∷◌, map, length, get_or, Some, None, vec_items, MatchBool, sym, refl, ap, ◌∙◌, subst, arith}
+use Rattle.std.proofs.Common.{◌≡◌, ℕ, ◌<◌, ◌≤◌, Bool, true, false, not, ltb, List, map, length, get_or, None, vec_items, MatchBool, sym, refl, ap, ◌∙◌, subst, arith}
 use mathlib.Core.Path.{fun_ext}
 use lib.ListN.{length-map}
 use Rattle.std.proofs.lemmas.Bool.{le-ltb, lt-ltb}
@@ -14,15 +14,13 @@ use Rattle.ledger.specs.Judgements.{judge_tested}
 use Rattle.ledger.specs.Moves.{ledger_of}
 use Rattle.ledger.specs.Nodes.{node_joins, node_name, nodes}
 use Rattle.ledger.specs.Orders.{listed_moves}
-use Rattle.ledger.specs.Runs.{NothingWaits}
 use Rattle.ledger.specs.Tests.{guard, how_many, lists_in}
 use Rattle.ledger.specs.Theorems.{HasRun}
-use Rattle.ledger.specs.Verdicts.{ListsRun, ShowsRing}
 use Rattle.ledger.specs.declared.moves.Move.{Move}
 use Rattle.ledger.proofs.Judging.{judged}
 use Rattle.ledger.proofs.Timed.{nothing_waits_from}
-use Rattle.present.specs.Data.{Held, how_many_in}
-use Rattle.present.specs.Joins.{node_joined, node_named, nodes_in}
+use Rattle.present.specs.Data.{Held}
+use Rattle.present.specs.Joins.{node_joined, nodes_in}
 use Rattle.present.specs.Theorems.{InStep}
 use Rattle.present.proofs.Offering.{sound_here, theorems}
 use Rattle.replay.specs.Names.{name_of}

@@ -1,8 +1,6 @@
 -- Whether anything waits, list by list.
-use Rattle.std.proofs.Common.{◌≡◌, ℕ, zero, suc, ◌<◌, true, false, ◌&&◌, List, [], ◌∷◌, length, refl, ap, ◌∙◌, arith}
-use Rattle.std.proofs.lemmas.Bool.{and_from}
-use Rattle.buffers.specs.Lists.{Lists, list_of, none_of, nothing_waits}
-use Rattle.buffers.specs.declared.store.Store.{Store}
+use Rattle.std.proofs.Common.{◌≡◌, ℕ, zero, suc, ◌<◌, true, false, [], ◌∷◌, length, refl, arith}
+use Rattle.buffers.specs.Lists.{Lists, list_of, nothing_waits}
 
 -- A list that is not empty says that something waits.
 pub some_waits : (ls : Lists) (t : ℕ) → 0 < length (list_of ls t) → nothing_waits ls ≡ false

@@ -2,7 +2,7 @@
 -- word_text       the word of a verdict
 -- name_text       an action's thread and its position, with one space between them
 -- answer_number   the number by which an answer is reported: a refusal's own, and 0 for all that was not refused
-use Rattle.std.specs.Prelude.{ℕ, List, [], ◌∷◌, ◌++◌, codes, decimal}
+use Rattle.std.specs.Prelude.{ℕ, List, ◌++◌, codes, decimal}
 use Rattle.refusal.specs.Refusals.{number_of}
 use Rattle.replay.specs.declared.calls.Answer.{Answer}
 use Rattle.replay.specs.declared.calls.Answer.TheVariants.{Moved, StartedOver, Judged, Refused}

@@ -1,19 +1,19 @@
 -- The ring of Dekker's late run is the only one.
-use Rattle.std.proofs.Common.{◌≡◌, ℕ, ◌+◌, ◌<◌, Bool, true, false, ◌&&◌, ◌||◌, ◌⊎◌, List, [], ◌∷◌, sym, refl, ap, ◌∙◌, subst, ⊎_elim, arith}
+use Rattle.std.proofs.Common.{◌≡◌, ℕ, ◌+◌, true, ◌&&◌, List, [], ◌∷◌, sym, refl, ap, ◌∙◌, subst, ⊎_elim, arith}
 use Rattle.std.specs.List.{AllByRecursion as All}
 use Rattle.std.proofs.lemmas.Bool.{and_parts, true≢false}
 use Rattle.buffers.specs.Kinds.{queue}
 use Rattle.buffers.specs.Laws.{Lawful}
 use Rattle.ledger.specs.Actions.{Name, name}
 use Rattle.ledger.specs.Edges.{Trace, edge, is_action, trace_of}
-use Rattle.ledger.specs.Ledgers.{Ledger, start}
+use Rattle.ledger.specs.Ledgers.{start}
 use Rattle.ledger.specs.Moves.{ledger_of}
 use Rattle.ledger.specs.Runs.{Accepted}
 use Rattle.ledger.specs.Theorems.{Chained}
 use Rattle.ledger.specs.Verdicts.{ListsRing, Lower}
 use Rattle.ledger.specs.Worked.{dekker, four, late}
 use Rattle.ledger.proofs.Draining.{sound_moves}
-use Rattle.ledger.proofs.Exact.{all_of, in_names}
+use Rattle.ledger.proofs.Exact.{in_names}
 use Rattle.ledger.proofs.Sorting.{In}
 use Rattle.ledger.proofs.Sound.{Sound, sound_start}
 

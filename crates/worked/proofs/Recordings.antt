@@ -1,5 +1,5 @@
 -- The worked recordings, read and printed.
-use Rattle.std.proofs.Common.{◌≡◌, ℕ, true, eqb, List, [], ◌∷◌, ◌++◌, map, length, is_some, Some, None, codes, sym, refl, ap, ◌∙◌, subst, ⊎_elim, arith}
+use Rattle.std.proofs.Common.{◌≡◌, ℕ, true, eqb, List, [], ◌∷◌, map, length, is_some, Some, codes, sym, refl, ap, ◌∙◌, subst, ⊎_elim, arith}
 use Rattle.std.specs.Fmt.{digits}
 use Rattle.std.proofs.lemmas.Bool.{cond-true, ltb-true, true≢false}
 use Rattle.refusal.specs.declared.Refusal.TheVariants.{ThreadNotFree}
@@ -7,8 +7,8 @@ use Rattle.buffers.specs.Kinds.{oldest_is_to, queue}
 use Rattle.buffers.specs.Laws.{Lawful}
 use Rattle.buffers.specs.Lists.{list_of, oldest_to, waits_to}
 use Rattle.buffers.specs.declared.store.Store.{Store}
-use Rattle.ledger.specs.Actions.{Name as Name', name}
-use Rattle.ledger.specs.Worked.{dekker, four, late}
+use Rattle.ledger.specs.Actions.{Name as Name'}
+use Rattle.ledger.specs.Worked.{dekker, late}
 use Rattle.ledger.proofs.Table.{worked_runs}
 use Rattle.replay.specs.Names.{name_of}
 use Rattle.replay.specs.Truth.{TrueVerdict, TrueWord}
@@ -16,9 +16,8 @@ use Rattle.replay.specs.declared.names.Name.{Name}
 use Rattle.replay.specs.declared.verdicts.Verdict.{Verdict}
 use Rattle.replay.specs.declared.verdicts.Word.{Word}
 use Rattle.replay.specs.declared.verdicts.Word.TheVariants.{Sequential, Violation}
-use Rattle.recording.specs.Texts.{Says, SaysFault, SaysVerdict, fault_text, verdict_text}
+use Rattle.recording.specs.Texts.{Says, fault_text, verdict_text}
 use Rattle.recording.specs.Verdicts.{fault_at}
-use Rattle.recording.specs.declared.faults.Fault.{Fault}
 use Rattle.worked.specs.Recorded.{Recorded, dekker_direct, dekker_queue}
 use Rattle.worked.proofs.OnlyRing.{only_ring, x}
 

@@ -1,5 +1,5 @@
-use Rattle.std.proofs.Common.{◌≡◌, Ok, Err, Result, sym, refl, subst}
-use Rattle.replay.specs.Offers.{Acted, ActedAlone}
+use Rattle.std.proofs.Common.{sym, refl, subst}
+use Rattle.replay.specs.Offers.{Acted}
 use Rattle.replay.specs.Views.{held}
 use Rattle.replay.proofs.Steps.{load_held}
 use Rattle.replay.proofs.replaying.Replay.act.Goals as goal

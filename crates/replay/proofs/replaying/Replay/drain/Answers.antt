@@ -1,4 +1,4 @@
-use Rattle.std.proofs.Common.{◌≡◌, ◌<◌, ◌≤◌, Some, sym, ◌∙◌, subst, arith}
+use Rattle.std.proofs.Common.{◌≡◌, ◌≤◌, Some, sym, ◌∙◌, subst, arith}
 use Rattle.present.specs.Data.{Present, how_many_in, oldest_left}
 use Rattle.replay.specs.Views.{present_of}
 use Rattle.replay.proofs.Steps.{few_drained, ok_or_told, oldest_within}
