@@ -1,6 +1,6 @@
 -- A table that marks exactly the attack pairs lists exactly them, in order, and so the call answers.
 use Rattle.std.proofs.Common.{◌≡◌, ℕ, zero, suc, ◌+◌, ◌<◌, ◌≤◌, Bool, true, false, leb, List, [], ◌∷◌, ◌++◌, length, get_or, drop, Ok, Err, sym, refl, ap, ◌∙◌, subst, inl, inr, add-zero, zero-add, arith}
-use Rattle.std.specs.List.{ContainsAt as Has, AllByRecursion as All}
+use Rattle.std.specs.List.{ContainsAt as Has, AllByRecursion}
 use Rattle.std.proofs.ByRecursion.{All-append, All-weaker, has_append_left, has_append_right}
 use Rattle.std.proofs.lemmas.Bool.{true≢false, le-leb, lt-leb, cond-true, cond-false}
 use Rattle.refusal.specs.declared.Refusal.TheVariants.{TooShort}
@@ -18,7 +18,7 @@ abbrev pub Marked : List Bool → ℕ → Type 0
 Marked marks l = get_or marks l false ≡ true
 
 -- Every pair of a row has its store and a load from i on.
-row_from : (s i : ℕ) (marks : List Bool) → All (λ p. (p.store ≡ s) × (i ≤ p.load)) (row_pairs s i marks)
+row_from : (s i : ℕ) (marks : List Bool) → AllByRecursion (λ p. (p.store ≡ s) × (i ≤ p.load)) (row_pairs s i marks)
 row_from s i [] = tt
 row_from s i (true ∷ marks) = ((refl, omega arith), All-weaker _ _ (λ p h. (h.0, omega (arith, h.1))) _ (row_from s (i + 1) marks))
 row_from s i (false ∷ marks) = All-weaker _ _ (λ p h. (h.0, omega (arith, h.1))) _ (row_from s (i + 1) marks)
@@ -30,7 +30,7 @@ row_ascends s i (true ∷ marks) = (All-weaker _ _ (λ p h. inr (sym h.0, omega 
 row_ascends s i (false ∷ marks) = row_ascends s (i + 1) marks
 
 -- What holds of every marked place holds of every pair of the row.
-row_sound : (P : ℕ → Type 0) (s i : ℕ) (marks : List Bool) → ((k : ℕ) → Marked marks k → P (i + k)) → All (λ p. (p.store ≡ s) × P p.load) (row_pairs s i marks)
+row_sound : (P : ℕ → Type 0) (s i : ℕ) (marks : List Bool) → ((k : ℕ) → Marked marks k → P (i + k)) → AllByRecursion (λ p. (p.store ≡ s) × P p.load) (row_pairs s i marks)
 row_sound P s i [] right = tt
 row_sound P s i (true ∷ marks) right =
     ((refl, subst P (add-zero i) (right 0 refl)), row_sound P s (i + 1) marks (λ k m. subst P (add_one_in i k) (right (suc k) m)))
@@ -52,14 +52,14 @@ row_complete s i (false ∷ marks) (suc k) marked =
     subst (λ n. Has (row_pairs s i (false ∷ marks)) (pair s n)) (sym (add_one_in i k)) (row_complete s (i + 1) marks k marked)
 
 -- Every pair of a table has a store from s on.
-table_from : (s : ℕ) (rows : List (List Bool)) → All (λ p. s ≤ p.store) (table_pairs s rows)
+table_from : (s : ℕ) (rows : List (List Bool)) → AllByRecursion (λ p. s ≤ p.store) (table_pairs s rows)
 table_from s [] = tt
 table_from s (row ∷ rows) =
     All-append _ (row_pairs s 0 row) (table_pairs (s + 1) rows) (All-weaker _ _ (λ p h. omega (arith, h.0)) _ (row_from s 0 row))
     (All-weaker _ _ (λ p h. omega (arith, h)) _ (table_from (s + 1) rows))
 
 -- Two ascending lists, the first all before the second, ascend together.
-ascending_append : (ps qs : List Pair) → Ascending ps → Ascending qs → All (λ p. All (Before p) qs) ps → Ascending (ps ++ qs)
+ascending_append : (ps qs : List Pair) → Ascending ps → Ascending qs → AllByRecursion (λ p. AllByRecursion (Before p) qs) ps → Ascending (ps ++ qs)
 ascending_append [] qs up above apart = above
 ascending_append (p ∷ ps) qs up above apart = (All-append (Before p) ps qs up.0 apart.0, ascending_append ps qs up.1 above apart.1)
 
@@ -72,7 +72,7 @@ table_ascends s (row ∷ rows) =
     (All-weaker _ _ (λ p h. All-weaker _ _ (λ q k. inl (omega (arith, h.0, k))) _ later) _ (row_from s 0 row))
 
 -- What holds of every marked place holds of every pair of the table.
-table_sound : (P : ℕ → ℕ → Type 0) (s : ℕ) (rows : List (List Bool)) → ((k l : ℕ) → Marked (get_or rows k []) l → P (s + k) l) → All (λ p. P p.store p.load) (table_pairs s rows)
+table_sound : (P : ℕ → ℕ → Type 0) (s : ℕ) (rows : List (List Bool)) → ((k l : ℕ) → Marked (get_or rows k []) l → P (s + k) l) → AllByRecursion (λ p. P p.store p.load) (table_pairs s rows)
 table_sound P s [] right = tt
 table_sound P s (row ∷ rows) right =
     All-append (λ p. P p.store p.load) (row_pairs s 0 row) (table_pairs (s + 1) rows)

@@ -1,6 +1,6 @@
 -- An edge, by its four sorts; and that it is the same edge in the same trace.
 use Rattle.std.proofs.Common.{◌≡◌, ℕ, ◌+◌, true, false, ◌&&◌, eqb, ◌⊎◌, List, [], ◌∷◌, ◌++◌, length, Some, sym, refl, ap, ◌∙◌, subst, inl, inr, ⊎_elim, arith}
-use Rattle.std.specs.List.{AllByRecursion as All}
+use Rattle.std.specs.List.{AllByRecursion}
 use Rattle.std.proofs.lemmas.Bool.{and_parts, eqb-true, ltb-true, or_cases, or_left, or_right, true≢false}
 use Rattle.ledger.specs.Actions.{Access, Name, Source, from, initial, loads, none, same, stores}
 use Rattle.ledger.specs.Edges.{Trace, after_source, edge, first_in, from_reads, is_action, next_in, program_order, reads_from, store_order}
@@ -52,7 +52,7 @@ edge_parts x a b joined =
     by_overwriting (loads c source) is so = overwritten_by c source is so
 
 -- Who stands next after another is in the list, and so is the other.
-pub next_in_both : (P : Name → Type 0) (names : List Name) (a b : Name) → next_in names a b ≡ true → All P names → P a × P b
+pub next_in_both : (P : Name → Type 0) (names : List Name) (a b : Name) → next_in names a b ≡ true → AllByRecursion P names → P a × P b
 next_in_both P [] a b so all = absurd (true≢false (sym so))
 next_in_both P (x ∷ []) a b so all = absurd (true≢false (sym so))
 next_in_both P (x ∷ y ∷ names) a b so all =
@@ -61,11 +61,11 @@ next_in_both P (x ∷ y ∷ names) a b so all =
     (λ later. next_in_both P (y ∷ names) a b later all.1)
     (or_cases (same x a && same y b) (next_in (y ∷ names) a b) so)
 
-pub first_in_one : (P : Name → Type 0) (names : List Name) (b : Name) → first_in names b ≡ true → All P names → P b
+pub first_in_one : (P : Name → Type 0) (names : List Name) (b : Name) → first_in names b ≡ true → AllByRecursion P names → P b
 first_in_one P [] b so all = absurd (true≢false (sym so))
 first_in_one P (x ∷ names) b so all = subst P (same_true x b so) all.0
 
-pub after_source_one : (P : Name → Type 0) (names : List Name) (source : Source) (b : Name) → after_source names source b ≡ true → All P names → P b
+pub after_source_one : (P : Name → Type 0) (names : List Name) (source : Source) (b : Name) → after_source names source b ≡ true → AllByRecursion P names → P b
 after_source_one P names initial b so all = first_in_one P names b so all
 after_source_one P names (from s) b so all = (next_in_both P names s b so all).1
 

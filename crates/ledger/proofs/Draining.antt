@@ -1,6 +1,6 @@
 -- A drain keeps what holds of every ledger; and so does every accepted move, over every kind that keeps the laws.
 use Rattle.std.proofs.Common.{◌≡◌, ℕ, zero, suc, ◌<◌, true, ◌⊎◌, List, [], ◌∷◌, ◌++◌, map, Some, sym, refl, ap, ◌∙◌, subst, inl, inr, ⊎_elim, arith}
-use Rattle.std.specs.List.{ContainsAt as Has, AllByRecursion as All}
+use Rattle.std.specs.List.{ContainsAt as Has, AllByRecursion}
 use Rattle.std.proofs.ByRecursion.{All-push, All-weaker, has_append_left, has_push}
 use Rattle.std.proofs.lemmas.Bool.{cases_eq}
 use Rattle.program.specs.declared.lines.Line.{Line}
@@ -53,9 +53,9 @@ module _ (ls : List Line) (l : Ledger) (sound : Sound ls l) (t c : ℕ) (e : Ent
       (λ other. update_other l.cells c e.store.value d other ∙ sound.cells d ∙ ap (λ names. held l.actions (last_of names)) (sym (update_other l.drained c (l.drained c ++ x ∷ []) d other)))
       (cases_eq d c)
 
-  drained_next : (d : ℕ) → All (StoreTo l.actions d) (next.drained d)
+  drained_next : (d : ℕ) → AllByRecursion (StoreTo l.actions d) (next.drained d)
   drained_next =
-      update_all l.drained c (l.drained c ++ x ∷ []) (λ d. All (StoreTo l.actions d))
+      update_all l.drained c (l.drained c ++ x ∷ []) (λ d. AllByRecursion (StoreTo l.actions d))
       (All-push (StoreTo l.actions c) (l.drained c) x (sound.drained c) (record { exists = x_stored.exists; access = x_stored.access; value = refl }))
       (λ d other. sound.drained d)
 
@@ -66,13 +66,13 @@ module _ (ls : List Line) (l : Ledger) (sound : Sound ls l) (t c : ℕ) (e : Ent
       (λ before. All-push (λ b. b ≡ name u f.position → ⊥) (l.drained c) x before (λ is. other (sym is)))
       (λ d apart before. before) f.store.cell lacks
 
-  all_both : {X : Type 0} (P Q : X → Type 0) (xs : List X) → All P xs → All Q xs → All (λ y. P y × Q y) xs
+  all_both : {X : Type 0} (P Q : X → Type 0) (xs : List X) → AllByRecursion P xs → AllByRecursion Q xs → AllByRecursion (λ y. P y × Q y) xs
   all_both P Q [] p q = tt
   all_both P Q (y ∷ ys) p q = ((p.0, q.0), all_both P Q ys p.1 q.1)
 
-  apart_next : (u : ℕ) → All (λ f. Lacks (next.drained f.store.cell) (name u f.position)) (next.waiting u)
+  apart_next : (u : ℕ) → AllByRecursion (λ f. Lacks (next.drained f.store.cell) (name u f.position)) (next.waiting u)
   apart_next =
-      update_all l.waiting t (less_oldest c (l.waiting t)) (λ u. All (λ f. Lacks (next.drained f.store.cell) (name u f.position)))
+      update_all l.waiting t (less_oldest c (l.waiting t)) (λ u. AllByRecursion (λ f. Lacks (next.drained f.store.cell) (name u f.position)))
       (All-weaker (λ f. (f.position ≡ e.position → ⊥) × Lacks (l.drained f.store.cell) (name t f.position)) (λ f. Lacks (next.drained f.store.cell) (name t f.position))
       (λ f both. lacks_next t f (λ is. both.0 (ap (λ a. a.position) is)) both.1) (less_oldest c (l.waiting t))
       (all_both (λ f. f.position ≡ e.position → ⊥) (λ f. Lacks (l.drained f.store.cell) (name t f.position)) (less_oldest c (l.waiting t))
@@ -113,7 +113,7 @@ module _ (ls : List Line) (l : Ledger) (sound : Sound ls l) (t c : ℕ) (e : Ent
     locals = sound.locals;
     right = sound.right;
     cells = cells_next;
-    entries = update_all l.waiting t (less_oldest c (l.waiting t)) (λ u. All (Entered l.actions u)) (all_less (Entered l.actions t) c (l.waiting t) (sound.entries t)) (λ u other. sound.entries u);
+    entries = update_all l.waiting t (less_oldest c (l.waiting t)) (λ u. AllByRecursion (Entered l.actions u)) (all_less (Entered l.actions t) c (l.waiting t) (sound.entries t)) (λ u other. sound.entries u);
     rising = update_all l.waiting t (less_oldest c (l.waiting t)) (λ u. λ es. Rising es) (rising_less c (l.waiting t) (sound.rising t)) (λ u other. sound.rising u);
     drained = drained_next;
     apart = apart_next;

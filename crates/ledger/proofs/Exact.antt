@@ -1,6 +1,6 @@
 -- A trace has a sequentially consistent run exactly when it has no ring; and no edge joins an action to itself.
 use Rattle.std.proofs.Common.{◌≡◌, ℕ, zero, suc, ◌<◌, Bool, true, false, ◌&&◌, ◌⊎◌, List, [], ◌∷◌, ◌++◌, length, sym, refl, ap, ◌∙◌, subst, inl, inr, ⊎_elim, arith}
-use Rattle.std.specs.List.{AllByRecursion as All}
+use Rattle.std.specs.List.{AllByRecursion}
 use Rattle.std.proofs.ByRecursion.{All-append}
 use Rattle.std.proofs.lemmas.Bool.{and_parts, cases_lt, or_cases, true≢false}
 use Rattle.program.specs.declared.lines.Line.{Line}
@@ -42,11 +42,11 @@ in_all_of acts (u ∷ us) a among there =
     (λ later. in_right a (up_to u (length (acts u))) (all_of acts us) (in_all_of acts us a later there))
     among
 
-up_to_all : (P : Name → Type 0) (t n : ℕ) → ((p : ℕ) → p < n → P (name t p)) → All P (up_to t n)
+up_to_all : (P : Name → Type 0) (t n : ℕ) → ((p : ℕ) → p < n → P (name t p)) → AllByRecursion P (up_to t n)
 up_to_all P t zero holds = tt
 up_to_all P t (suc n) holds = (holds n (omega arith), up_to_all P t n (λ p lt. holds p (omega (arith, lt))))
 
-all_of_all : (P : Name → Type 0) (acts : ℕ → List Action) (us : List ℕ) → ((a : Name) → Exists acts a → P a) → All P (all_of acts us)
+all_of_all : (P : Name → Type 0) (acts : ℕ → List Action) (us : List ℕ) → ((a : Name) → Exists acts a → P a) → AllByRecursion P (all_of acts us)
 all_of_all P acts [] holds = tt
 all_of_all P acts (u ∷ us) holds = All-append P (up_to u (length (acts u))) (all_of acts us) (up_to_all P u (length (acts u)) (λ p lt. holds (name u p) lt)) (all_of_all P acts us holds)
 

@@ -1,7 +1,7 @@
 -- An order of the nodes makes `sequential` true, and a ring of them makes `violation` true.
 use Rattle.std.proofs.Common.{◌≡◌, ℕ, zero, suc, ◌+◌, ◌-◌, ◌<◌, ◌≤◌, Bool, true, false, cond, ◌&&◌, eqb, ltb, List, [], ◌∷◌, ◌++◌, map, length, get_or, take, drop, sym, refl, ap, ◌∙◌, subst, inl, ⊎_elim, suc-le-suc, arith}
 use lib.ListN.{length-map}
-use Rattle.std.specs.List.{ContainsAt as Has, AllByRecursion as All}
+use Rattle.std.specs.List.{ContainsAt as Has, AllByRecursion}
 use Rattle.std.proofs.ByRecursion.{has_append_left, has_append_right, has_get_or, has_push, has_push_cases}
 use Rattle.std.proofs.lemmas.List.{drop_all, drop_more, get_or-map, get_or-take, length-take, map_push, take_more}
 use Rattle.std.proofs.lemmas.Bool.{and_from, and_parts, cases_eq, cases_lt, cond-false, cond-true, eq-eqb, lt-ltb, ltb-true, ne_eqb}
@@ -216,7 +216,7 @@ module _ (ls : List Line) (l : Ledger) (sound : Sound ls l) where
         (cases_lt (k + 1) (length ns))
 
 -- What holds of all places of a list holds of all of its image.
-all_places : (x : Trace) (P : Name → Type 0) (ns : List ℕ) → ((k : ℕ) → k < length ns → P (node_name x (get_or ns k 0))) → All P (map (node_name x) ns)
+all_places : (x : Trace) (P : Name → Type 0) (ns : List ℕ) → ((k : ℕ) → k < length ns → P (node_name x (get_or ns k 0))) → AllByRecursion P (map (node_name x) ns)
 all_places x P [] holds = tt
 all_places x P (n ∷ ns) holds = (holds 0 (omega arith), all_places x P ns (λ k within. holds (suc k) (suc-le-suc within)))
 

@@ -1,6 +1,6 @@
 -- The numbering of a trace's actions: every action has one number, lower actions have lower numbers.
 use Rattle.std.proofs.Common.{◌≡◌, ℕ, zero, suc, ◌+◌, ◌<◌, ◌≤◌, ◌⊎◌, List, [], ◌∷◌, ◌++◌, length, get_or, sym, refl, ap, subst, inl, inr, ⊎_elim, suc-le-suc, le_of_suc-le-suc, arith}
-use Rattle.std.specs.List.{AllByRecursion as All}
+use Rattle.std.specs.List.{AllByRecursion}
 use Rattle.std.proofs.ByRecursion.{All-append, All-get_or, All-weaker}
 use Rattle.std.proofs.lemmas.Bool.{cases_lt}
 use Rattle.ledger.specs.Actions.{Action, Name, name}
@@ -15,14 +15,14 @@ use Rattle.ledger.proofs.Sorting.{In, in_left, in_right}
 -- each comes before all that follow, by thread and then by position
 abbrev pub Rising : List Name → Type 0
 Rising [] = Unit {0}
-Rising (a ∷ names) = All (Lower a) names × Rising names
+Rising (a ∷ names) = AllByRecursion (Lower a) names × Rising names
 
-rising_append : (xs ys : List Name) → Rising xs → Rising ys → All (λ a. All (Lower a) ys) xs → Rising (xs ++ ys)
+rising_append : (xs ys : List Name) → Rising xs → Rising ys → AllByRecursion (λ a. AllByRecursion (Lower a) ys) xs → Rising (xs ++ ys)
 rising_append [] ys up above apart = above
 rising_append (a ∷ xs) ys up above apart = (All-append (Lower a) xs ys up.0 apart.0, rising_append xs ys up.1 above apart.1)
 
 -- what is known of a run of names
-of_run : (P : Name → Type 0) (t p n : ℕ) → ((q : ℕ) → p ≤ q → q < p + n → P (name t q)) → All P (run_of_names t p n)
+of_run : (P : Name → Type 0) (t p n : ℕ) → ((q : ℕ) → p ≤ q → q < p + n → P (name t q)) → AllByRecursion P (run_of_names t p n)
 of_run P t p zero holds = tt
 of_run P t p (suc n) holds = (holds p (omega arith) (omega arith), of_run P t (suc p) n (λ q low high. holds q (omega (arith, low)) (omega (arith, high))))
 
@@ -47,16 +47,16 @@ in_nodes acts (t ∷ ts) a among there =
     among
 
 -- Every number is an action's.
-pub nodes_exist : (acts : ℕ → List Action) (ts : List ℕ) → All (Exists acts) (nodes_of acts ts)
+pub nodes_exist : (acts : ℕ → List Action) (ts : List ℕ) → AllByRecursion (Exists acts) (nodes_of acts ts)
 nodes_exist acts [] = tt
 nodes_exist acts (t ∷ ts) = All-append (Exists acts) (run_of_names t 0 (length (acts t))) (nodes_of acts ts) (of_run (Exists acts) t 0 (length (acts t)) (λ q low high. omega (arith, high))) (nodes_exist acts ts)
 
 -- numbers of threads that rise
 abbrev RisingThreads : List ℕ → Type 0
 RisingThreads [] = Unit {0}
-RisingThreads (t ∷ ts) = All (λ u. t < u) ts × RisingThreads ts
+RisingThreads (t ∷ ts) = AllByRecursion (λ u. t < u) ts × RisingThreads ts
 
-later_threads : (acts : ℕ → List Action) (t : ℕ) (ts : List ℕ) → All (λ u. t < u) ts → All (λ a. t < a.thread) (nodes_of acts ts)
+later_threads : (acts : ℕ → List Action) (t : ℕ) (ts : List ℕ) → AllByRecursion (λ u. t < u) ts → AllByRecursion (λ a. t < a.thread) (nodes_of acts ts)
 later_threads acts t [] above = tt
 later_threads acts t (u ∷ ts) above = All-append (λ a. t < a.thread) (run_of_names u 0 (length (acts u))) (nodes_of acts ts) (of_run (λ a. t < a.thread) u 0 (length (acts u)) (λ q low high. above.0)) (later_threads acts t ts above.1)
 
@@ -64,7 +64,7 @@ nodes_rise : (acts : ℕ → List Action) (ts : List ℕ) → RisingThreads ts �
 nodes_rise acts [] up = tt
 nodes_rise acts (t ∷ ts) up =
     rising_append (run_of_names t 0 (length (acts t))) (nodes_of acts ts) (run_rises t 0 (length (acts t))) (nodes_rise acts ts up.1)
-    (of_run (λ a. All (Lower a) (nodes_of acts ts)) t 0 (length (acts t)) (λ q low high. All-weaker (λ a. t < a.thread) (Lower (name t q)) (λ a lt. inl lt) (nodes_of acts ts) (later_threads acts t ts up.0)))
+    (of_run (λ a. AllByRecursion (Lower a) (nodes_of acts ts)) t 0 (length (acts t)) (λ q low high. All-weaker (λ a. t < a.thread) (Lower (name t q)) (λ a lt. inl lt) (nodes_of acts ts) (later_threads acts t ts up.0)))
 
 threads_rise : RisingThreads threads
 threads_rise = ((omega arith, (omega arith, (omega arith, (omega arith, (omega arith, (omega arith, (omega arith, tt))))))), ((omega arith, (omega arith, (omega arith, (omega arith, (omega arith, (omega arith, tt)))))), ((omega arith, (omega arith, (omega arith, (omega arith, (omega arith, tt))))), ((omega arith, (omega arith, (omega arith, (omega arith, tt)))), ((omega arith, (omega arith, (omega arith, tt))), ((omega arith, (omega arith, tt)), ((omega arith, tt), (tt, tt))))))))

@@ -1,6 +1,6 @@
 -- The worked runs, computed.
 use Rattle.std.proofs.Common.{◌≡◌, ℕ, ◌<◌, true, false, List, [], ◌∷◌, sym, refl, ◌∙◌, subst, inl, inr, arith}
-use Rattle.std.specs.List.{AllByRecursion as All}
+use Rattle.std.specs.List.{AllByRecursion}
 use Rattle.std.proofs.lemmas.Bool.{true≢false}
 use Rattle.program.specs.declared.lines.Line.{Line}
 use Rattle.buffers.specs.Kinds.{direct, per_cell, queue}
@@ -54,7 +54,7 @@ shows ls x (a ∷ b ∷ names) ring = record { no_run = λ run. run_gives_no_rin
 different : Different four
 different = ((apart refl, (apart refl, (apart refl, tt))), ((apart refl, (apart refl, tt)), ((apart refl, tt), (tt, tt))))
 
-lower : All (Lower (name 0 0)) (name 0 1 ∷ name 1 0 ∷ name 1 1 ∷ [])
+lower : AllByRecursion (Lower (name 0 0)) (name 0 1 ∷ name 1 0 ∷ name 1 1 ∷ [])
 lower = (inr (refl, omega arith), (inl (omega arith), (inl (omega arith), tt)))
 
 prompt_order : Order (trace_after queue dekker prompt) four

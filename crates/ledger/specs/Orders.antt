@@ -5,7 +5,7 @@
 -- Order x names           so are all of the names, from none placed on, and every action is one of them
 -- entry-moves, listed-moves   an action as moves: its run, and directly after it the drain, if it is a store
 use Rattle.std.specs.Prelude.{◌≡◌, ℕ, true, List, [], ◌∷◌, ◌++◌, ◌≢◌}
-use Rattle.std.specs.List.{ContainsAt as Has, AllByRecursion as All}
+use Rattle.std.specs.List.{ContainsAt as Has, AllByRecursion}
 use Rattle.ledger.specs.Actions.{Access, Name, loads, none, stores}
 use Rattle.ledger.specs.Edges.{Trace, edge, is_action}
 use Rattle.ledger.specs.Ledgers.{action_at}
@@ -13,7 +13,7 @@ use Rattle.ledger.specs.declared.moves.Move.{Move}
 use Rattle.ledger.specs.declared.moves.Move.TheVariants.{Run, Drain}
 
 abbrev pub Lacks : List Name → Name → Type 0
-Lacks names a = All (λ b. b ≢ a) names
+Lacks names a = AllByRecursion (λ b. b ≢ a) names
 
 abbrev pub Ready : Trace → List Name → Name → Type 0
 Ready x placed b = (a : Name) → edge x a b ≡ true → Has placed a

@@ -1,7 +1,7 @@
 -- The edges between kept actions are those of the trace of a ledger that they agree with.
 use Rattle.std.proofs.Common.{◌≡◌, ℕ, ◌<◌, Bool, true, false, ◌&&◌, ◌||◌, ltb, List, [], ◌∷◌, length, get_or, Some, sym, refl, ap, ◌∙◌, subst, ⊎_elim}
 use mathlib.Core.Path.{fun_ext}
-use Rattle.std.specs.List.{AllByRecursion as All}
+use Rattle.std.specs.List.{AllByRecursion}
 use Rattle.std.proofs.lemmas.List.{get_or-map}
 use Rattle.std.proofs.lemmas.Bool.{and_from, and_parts, cond-false, cond-true, eq-eqb, eqb-true, ltb-true, or_cases, true≢false}
 use Rattle.program.specs.declared.lines.Line.{Line}
@@ -36,7 +36,7 @@ and_same true y z alike = alike refl
 and_same false y z alike = refl
 
 -- Who stands next after another stands behind the first.
-next_behind : (P : Name → Type 0) (x : Name) (names : List Name) (a b : Name) → next_in (x ∷ names) a b ≡ true → All P names → P b
+next_behind : (P : Name → Type 0) (x : Name) (names : List Name) (a b : Name) → next_in (x ∷ names) a b ≡ true → AllByRecursion P names → P b
 next_behind P x [] a b so all = absurd (true≢false (sym so))
 next_behind P x (y ∷ names) a b so all =
     ⊎_elim

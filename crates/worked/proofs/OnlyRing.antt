@@ -1,6 +1,6 @@
 -- The ring of Dekker's late run is the only one.
 use Rattle.std.proofs.Common.{◌≡◌, ℕ, ◌+◌, true, ◌&&◌, List, [], ◌∷◌, sym, refl, ap, ◌∙◌, subst, ⊎_elim, arith}
-use Rattle.std.specs.List.{AllByRecursion as All}
+use Rattle.std.specs.List.{AllByRecursion}
 use Rattle.std.proofs.lemmas.Bool.{and_parts, true≢false}
 use Rattle.buffers.specs.Kinds.{queue}
 use Rattle.buffers.specs.Laws.{Lawful}
@@ -98,7 +98,7 @@ module _ (queue_lawful : Lawful queue) where
   only_ring (a ∷ []) ring = absurd ring
   only_ring (a ∷ b ∷ rest) ring = from (a_corner a (and_parts (is_action x a) (is_action x b) (and_parts (is_action x a && is_action x b) _ ring.0.0).0).0)
     where
-      from_first : (rest : List Name) → a ≡ corner first → b ≡ corner second → Chained x b rest a → All (λ c. c ≡ a → ⊥) rest → a ∷ b ∷ rest ≡ four
+      from_first : (rest : List Name) → a ≡ corner first → b ≡ corner second → Chained x b rest a → AllByRecursion (λ c. c ≡ a → ⊥) rest → a ∷ b ∷ rest ≡ four
       from_first [] p q so lacks = absurd (clash p (onward second b a q so) (λ e. omega (arith, e)))
       from_first (c ∷ []) p q so lacks = absurd (clash p (onward third c a (onward second b c q so.0) so.1) (λ e. omega (arith, e)))
       from_first (c ∷ d ∷ []) p q so lacks =
@@ -111,13 +111,13 @@ module _ (queue_lawful : Lawful queue) where
           let t = onward fourth d e s so.1.1.0 in
           absurd (lacks.1.1.0 (t ∙ sym p))
 
-      from_second : (rest : List Name) → a ≡ corner second → b ≡ corner third → Chained x b rest a → All (Lower a) rest → ⊥
+      from_second : (rest : List Name) → a ≡ corner second → b ≡ corner third → Chained x b rest a → AllByRecursion (Lower a) rest → ⊥
       from_second [] p q so lower = clash p (onward third b a q so) (λ e. omega (arith, e))
       from_second (c ∷ []) p q so lower = clash p (onward fourth c a (onward third b c q so.0) so.1) (λ e. omega (arith, e))
       from_second (c ∷ d ∷ more) p q so lower =
           not_lower second first p (onward fourth c d (onward third b c q so.0) so.1.0) (⊎_elim (λ l. omega (arith, l)) (λ l. omega (arith, l.1))) lower.1.0
 
-      from_third : (rest : List Name) → a ≡ corner third → b ≡ corner fourth → Chained x b rest a → All (Lower a) rest → ⊥
+      from_third : (rest : List Name) → a ≡ corner third → b ≡ corner fourth → Chained x b rest a → AllByRecursion (Lower a) rest → ⊥
       from_third [] p q so lower = clash p (onward fourth b a q so) (λ e. omega (arith, e))
       from_third (c ∷ more) p q so lower = not_lower third first p (onward fourth b c q so.0) (⊎_elim (λ l. omega (arith, l)) (λ l. omega (arith, l.0))) lower.0
 
