@@ -4,8 +4,8 @@
 -- Path ls m n         a chain of lines leads from m to n, each following the one before, with no fence between the two ends
 -- Attack ls s l       s is a store and l a load, and a path leads from s to l
 -- Before p q          the pair p comes first: by the store's number, then by the load's
--- Attack-pairs ls ps  ps are all the attack pairs, nothing else, each before the next
--- OneList            there is only one such list
+-- AttackPairs ls ps   ps are all the attack pairs, nothing else, each before the next
+-- OneList             there is only one such list
 -- Listed              what listing them answers, and what the list handed in holds afterwards
 use Rattle.std.specs.Prelude.{◌≡◌, ℕ, ◌<◌, Bool, true, false, cond, ◌&&◌, ◌⊎◌, List, [], ◌∷◌, ◌++◌, length, drop, Some, None, Ok, Err, Option, Result, ◌==◌, nat_le}
 use Rattle.std.specs.List.{slice_get, ContainsAt as Has, AllByRecursion}

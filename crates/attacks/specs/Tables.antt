@@ -1,6 +1,6 @@
 -- A table of marks, a row for each store and in it a place for each load. Only private calls speak of it.
--- RightRow ls s marks    the row marks exactly the loads that make an attack pair with the store s
--- RightTable ls rows     so does each row, for the store of its number
+-- RightRow ls s marks     the row marks exactly the loads that make an attack pair with the store s
+-- RightTable ls rows      so does each row, for the store of its number
 -- row_pairs s i marks     the store s with the number of each marked place, the places counted from i
 -- table_pairs s rows      so for each row, the stores counted from s
 use Rattle.std.specs.Prelude.{◌≡◌, ℕ, ◌+◌, Bool, true, false, cond, List, [], ◌∷◌, ◌++◌, slice_index_or}

@@ -1,4 +1,7 @@
 pub mod Calls
+pub mod Chosen
 pub mod Oldest
 pub mod Order
 pub mod Puts
+pub mod Rowed
+pub mod Stores

@@ -1,6 +1,6 @@
 -- What the calls of a store buffer answer, and what waits after them.
--- put-answer, put-lists      a store is put at the end of the thread's list
--- take-answer, take-lists    the thread's oldest store to a cell is taken out
+-- put_answer, put_lists      a store is put at the end of the thread's list
+-- take_answer, take_lists    the thread's oldest store to a cell is taken out
 -- no_stores                  what waits once all is cleared
 use Rattle.std.specs.Prelude.{ℕ, Bool, cond, [], ◌∷◌, ◌++◌, length, replicate, Ok, Err, Result, nat_le, slice_set}
 use Rattle.std.specs.Option.{ok_or}

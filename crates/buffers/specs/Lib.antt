@@ -1,10 +1,8 @@
 pub mod Calls
+pub mod KindLaws
 pub mod Kinds
 pub mod Laws
 pub mod Lists
 pub mod Rows
 pub mod Theorems
 pub mod Waits
-pub mod Rowed
-pub mod Chosen
-pub mod Stores

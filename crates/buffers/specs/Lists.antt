@@ -1,12 +1,12 @@
 -- The waiting stores of all threads.
--- Lists               a list of waiting stores for each thread, oldest first
--- list_of ls t        the stores of the thread t; none for a thread that is not there
--- oldest_to c ss      the value of the oldest store to the cell c, if there is one
--- newest_to c ss      the value of the youngest
--- without-oldest c ss ss less its oldest store to the cell c
--- waits_to c ss       a store to the cell c waits
--- nothing_waits ls    no store of any thread waits
--- Good ls             eight lists, at most 16 stores in each, every cell below 16 and every value of 32 bits
+-- Lists                 a list of waiting stores for each thread, oldest first
+-- list_of ls t          the stores of the thread t; none for a thread that is not there
+-- oldest_to c ss        the value of the oldest store to the cell c, if there is one
+-- newest_to c ss        the value of the youngest
+-- without_oldest c ss   ss less its oldest store to the cell c
+-- waits_to c ss         a store to the cell c waits
+-- nothing_waits ls      no store of any thread waits
+-- Good ls               eight lists, at most 16 stores in each, every cell below 16 and every value of 32 bits
 use Rattle.std.specs.Prelude.{◌≡◌, ℕ, ◌^◌, ◌≤◌, Bool, true, false, cond, ◌&&◌, List, [], ◌∷◌, length, is_some, Some, None, Option, ◌==◌, nat_lt, slice_index_or}
 use Rattle.buffers.specs.declared.store.Store.{Store}
 

@@ -1,13 +1,13 @@
 -- What follows from the meaning of a store buffer.
 -- Event                 a put or a take, as it is offered
--- after-event(s)        what waits after it, or after a list of them, under the rules r
+-- after_event(s)        what waits after it, or after a list of them, under the rules r
 -- values_to c ss        the values of the stores to the cell c, oldest first
 -- values_put            the values that the thread t put for the cell c, in the order put; refused puts put nothing
 -- values_taken          the values that were taken from them, in the order taken
--- LeaveInOrder        over every kind, the stores of a thread to one cell leave in the order in which they were put
--- TakesOldest          over every kind, a free drain takes the thread's oldest store to its cell, and leaves the others as they were
--- OnlyOldestLeaves    over queue, that store is the thread's oldest of all
--- NothingChosen        strong cells with nothing chosen have the rules of the kind below
+-- LeaveInOrder          over every kind, the stores of a thread to one cell leave in the order in which they were put
+-- TakesOldest           over every kind, a free drain takes the thread's oldest store to its cell, and leaves the others as they were
+-- OnlyOldestLeaves      over queue, that store is the thread's oldest of all
+-- NothingChosen         strong cells with nothing chosen have the rules of the kind below
 use Rattle.std.specs.Prelude.{◌≡◌, ℕ, true, false, cond, ◌&&◌, List, [], ◌∷◌, ◌++◌, replicate, Ok, Err, Result, ◌==◌}
 use Rattle.refusal.specs.declared.Refusal.{Refusal}
 use Rattle.buffers.specs.Calls.{no_stores, put_answer, put_lists, take_answer, take_lists}

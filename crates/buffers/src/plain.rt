@@ -2,8 +2,8 @@
 ghost use Rattle.std.specs.Prelude.{◌≡◌, IfOk};
 ghost use Rattle.buffers.specs.Calls.{no_stores};
 ghost use Rattle.buffers.specs.Waits.{lists_in};
-ghost use Rattle.buffers.specs.Rowed.{good_in};
-ghost use Rattle.std.proofs.Common.{rules};
+ghost use Rattle.buffers.specs.KindLaws.{good_in};
+ghost use Rattle.std.proofs.Common.{rules as std_rules};
 
 use super::disciplines::{DirectRules, Discipline, PerCellRules, QueueRules};
 use super::meaning::StoreBuffer;
@@ -43,7 +43,7 @@ impl<D: Discipline> StoreBuffer for Plain<D> {
 
     ghost good = { λ b. good_in b.waiting.rows.value b.waiting.eight };
 
-    ghost lawful = { Prim.search rules };
+    ghost lawful = { Prim.search std_rules };
 
     fn put(&mut self, thread: usize, cell: usize, value: u32) -> Result<(), Refusal> {
         self.waiting.put(thread, cell, value)

@@ -2,8 +2,8 @@
 ghost use Rattle.std.specs.Prelude.{◌≡◌};
 ghost use Rattle.buffers.specs.Kinds.{has_chosen, strong};
 ghost use Rattle.buffers.specs.Lists.{list_of};
-ghost use Rattle.buffers.specs.Chosen.{strong_lawful};
-ghost use Rattle.std.proofs.Common.{rules};
+ghost use Rattle.buffers.specs.KindLaws.{strong_lawful};
+ghost use Rattle.std.proofs.Common.{rules as std_rules};
 
 use super::meaning::StoreBuffer;
 use refusal::Refusal;
@@ -44,7 +44,7 @@ impl<B: StoreBuffer> StoreBuffer for StrongCells<B> {
 
     ghost rules = { λ b. strong b.chosen (B.StoreBuffer.rules b.below) };
 
-    ghost good = { Prim.search rules };
+    ghost good = { Prim.search std_rules };
 
     ghost lawful = { λ b. strong_lawful b.chosen (B.StoreBuffer.rules b.below) (B.StoreBuffer.lawful b.below) };
 

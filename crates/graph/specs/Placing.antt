@@ -8,7 +8,7 @@
 -- Unplaced s v                          v is a node that is not placed
 -- FirstReady s v                        v is the lowest node that is not placed and that none blocks
 -- NoneReady s                           every node that is not placed is blocked
-use Rattle.std.specs.Prelude.{◌≡◌, ℕ, ◌+◌, ◌<◌, ◌≤◌, Bool, true, false, not, List, length, get_or, take, count_by, ◌≢◌, slice_index, slice_index_or}
+use Rattle.std.specs.Prelude.{◌≡◌, ℕ, ◌+◌, ◌<◌, ◌≤◌, Bool, true, false, not, List, length, take, count_by, ◌≢◌, slice_index, slice_index_or}
 use Rattle.std.specs.List.{ContainsAt as Has}
 use Rattle.graph.specs.declared.ordering.Sorting.{Sorting}
 use Rattle.graph.specs.Sorting.{Next}
@@ -51,7 +51,7 @@ Unplaced s v = (v < s.size) × (slice_index_or s.placed v false ≡ false)
 
 pub record FirstReady (s : Sorting) (v : ℕ) : Type 0 where
   pub unplaced : Unplaced s v
-  pub unblocked : get_or s.blockers v 0 ≡ s.size
+  pub unblocked : slice_index s.blockers v ≡ s.size
   pub lower : (w : ℕ) → w < v → slice_index_or s.placed w false ≡ false → slice_index s.blockers w ≢ s.size
 
 abbrev pub NoneReady : Sorting → Type 0

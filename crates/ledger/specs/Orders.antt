@@ -1,9 +1,9 @@
 -- Orders of a trace's actions, and the moves that an order stands for.
--- Lacks names a           the list lacks the name
--- Ready x placed b        every action from which an edge leads to b is placed
--- In-order x placed rest  each of the rest is an action that is not placed yet, and ready, once those before it are placed too
--- Order x names           so are all of the names, from none placed on, and every action is one of them
--- entry-moves, listed-moves   an action as moves: its run, and directly after it the drain, if it is a store
+-- Lacks names a               the list lacks the name
+-- Ready x placed b            every action from which an edge leads to b is placed
+-- InOrder x placed rest       each of the rest is an action that is not placed yet, and ready, once those before it are placed too
+-- Order x names               so are all of the names, from none placed on, and every action is one of them
+-- entry_moves, listed_moves   an action as moves: its run, and directly after it the drain, if it is a store
 use Rattle.std.specs.Prelude.{◌≡◌, ℕ, true, List, [], ◌∷◌, ◌++◌, ◌≢◌}
 use Rattle.std.specs.List.{ContainsAt as Has, AllByRecursion}
 use Rattle.ledger.specs.Actions.{Access, Name, loads, none, stores}

@@ -1,7 +1,7 @@
 -- Runs, and which of them are sequentially consistent.
 -- Accepted rules ls l ms   each of the moves passes the tests in its turn, from the ledger l on
--- NothingWaits l          no store of any thread waits
--- SequentialRun ls ms     a sequentially consistent run of the program: each move is accepted from the start under direct's
+-- NothingWaits l           no store of any thread waits
+-- SequentialRun ls ms      a sequentially consistent run of the program: each move is accepted from the start under direct's
 --                          rules, and nothing waits after the last
 use Rattle.std.specs.Prelude.{◌≡◌, ℕ, List, [], ◌∷◌}
 use Rattle.program.specs.declared.lines.Line.{Line}

@@ -1,7 +1,7 @@
 -- What is proved of runs, orders and rings.
 -- RunOf ls x ms        the moves ms are a sequentially consistent run of the program, and its trace is x
 -- HasRun ls x          there is such a run
--- Chained, Ring         edges from each action to the next and from the last to the first
+-- Chained, Ring        edges from each action to the next and from the last to the first
 use Rattle.std.specs.Prelude.{◌≡◌, true, false, List, [], ◌∷◌}
 use Rattle.program.specs.declared.lines.Line.{Line}
 use Rattle.buffers.specs.Laws.{Lawful, Rules}

@@ -1,8 +1,8 @@
 -- What makes a verdict on a trace true.
--- next_of placed t      the next action of the thread t, where these are placed
+-- next_of placed t     the next action of the thread t, where these are placed
 -- LowestFirst          each place has the lowest thread among those whose next action is ready
 -- ListsRun             `sequential` with this list is true: it is an order of all actions, lowest thread first, and read as moves,
---                       a store's drain directly after its run, it is a sequentially consistent run with the trace
+--                      a store's drain directly after its run, it is a sequentially consistent run with the trace
 -- ListsRing            the list is a ring of two or more different actions, the lowest first (by thread, then by position)
 -- ShowsRing            `violation` with this list is true: no sequentially consistent run has the trace, and the list is a ring of it
 -- Which ring it is, where there are several, is not decided here.

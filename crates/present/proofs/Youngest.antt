@@ -1,7 +1,7 @@
 -- The youngest store to a cell: the same among the entries of a ledger, among kept actions, and in a list of the buffer.
 use Rattle.std.proofs.Common.{◌≡◌, ℕ, ◌+◌, Bool, true, false, cond, not, ◌&&◌, eqb, List, [], ◌∷◌, ◌++◌, map, length, is_some, Some, None, Option, sym, refl, ap, ◌∙◌, append_assoc, append-nil, add-zero, arith}
 use Rattle.buffers.specs.Lists.{else_this, newest_to}
-use Rattle.buffers.specs.Stores.{else_none}
+use Rattle.buffers.proofs.Stores.{else_none}
 use Rattle.ledger.specs.Actions.{Access, Source, loads, none, stores}
 use Rattle.ledger.specs.Ledgers.{Entry}
 use Rattle.ledger.specs.Moves.{issued, or_else, youngest}

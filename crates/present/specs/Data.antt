@@ -5,7 +5,7 @@
 -- fresh             what a replay holds once it is made, or starts over; nothing waits then
 -- actions_in        the actions of a thread
 -- how_many_in       the number of actions of all threads
--- left-waiting c x  the kept action is a store to the cell c, and was not drained: the actions leave it waiting
+-- left_waiting c x  the kept action is a store to the cell c, and was not drained: the actions leave it waiting
 -- oldest_left       the position of the oldest such action of a thread, positions counted from i
 -- youngest_left     of the youngest
 use Rattle.std.specs.Prelude.{ℕ, ◌+◌, Bool, false, cond, not, ◌&&◌, List, [], ◌∷◌, map, length, is_some, Some, None, Option, ◌==◌, slice_index_or}

@@ -1,8 +1,8 @@
 -- What follows for a replay that only its own calls have touched since it was made.
--- Begins-right      what it holds at first agrees with the ledger of no moves
--- Offers-right      if it agrees with the ledger of accepted moves, an offered move is answered as the ledger says, and the two agree
+-- begins            what it holds at first agrees with the ledger of no moves
+-- answers, goes_on  if it agrees with the ledger of accepted moves, an offered move is answered as the ledger says, and the two agree
 --                   afterwards; the threads kept as delaying stay those that delayed
--- Judges-right      and the edges that it is judged by are the edges of the trace
+-- nodes, edges      and the edges that it is judged by are the edges of the trace
 use Rattle.std.specs.Prelude.{◌≡◌, ℕ, List, [], ◌∷◌, ◌++◌, Some, None, Option}
 use Rattle.refusal.specs.declared.Refusal.{Refusal}
 use Rattle.program.specs.declared.lines.Line.{Line}

@@ -7,7 +7,7 @@ use Rattle.buffers.specs.Kinds.{oldest_is_to, per_cell, queue}
 use Rattle.buffers.specs.Laws.{Lawful}
 use Rattle.buffers.specs.Lists.{list_of, oldest_to, waits_to}
 use Rattle.buffers.specs.declared.store.Store.{Store}
-use Rattle.buffers.specs.Chosen.{strong_lawful}
+use Rattle.buffers.specs.KindLaws.{strong_lawful}
 use Rattle.ledger.specs.Ledgers.{start}
 use Rattle.ledger.specs.Moves.{ledger_of}
 use Rattle.ledger.specs.Runs.{Accepted}

@@ -1,5 +1,5 @@
 -- What is proved of the moves of a recording.
--- AcceptedMoves    where a recording is read to its end, each of its moves passes the ledger's tests in its turn, from the start on, under
+-- AcceptedMoves     where a recording is read to its end, each of its moves passes the ledger's tests in its turn, from the start on, under
 --                   the rules of the store buffer that its setup names
 use Rattle.std.specs.Prelude.{◌≡◌, ℕ, List}
 use Rattle.program.specs.declared.lines.Line.{Line}

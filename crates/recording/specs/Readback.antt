@@ -1,7 +1,7 @@
 -- That the layout is read back: what a record is written as is read as that record, and nothing else is.
 -- Fits              each field of a record fits its bytes
--- ReadsBack        from the bytes of a record, with anything behind them, that record is read
--- ReadIsLayout    bytes from which a record is read begin with the bytes of that record
+-- ReadsBack         from the bytes of a record, with anything behind them, that record is read
+-- ReadIsLayout      bytes from which a record is read begin with the bytes of that record
 use Rattle.std.specs.Prelude.{◌≡◌, ℕ, ◌^◌, ◌<◌, List, ◌++◌, drop, Ok}
 use Rattle.std.specs.List.{AllByRecursion}
 use Rattle.recording.specs.Layout.{bytes_of, first_record, size}

@@ -2,9 +2,9 @@
 -- past_of        the place behind a record
 -- move_of        the move that a record offers, if it offers one
 -- Peeked         the record at a place, if there is one
--- AtFault       a reading is at that fault
+-- AtFault        a reading is at that fault
 -- Starts         the recording begins with that setup, and its meaning goes on behind it
--- LineAdded     what adding the line of a record's fields answers and leaves
+-- LineAdded      what adding the line of a record's fields answers and leaves
 -- Adds           the instructions from a place on were added, the meaning goes on with moves behind them; or one is at fault
 use Rattle.std.specs.Prelude.{◌≡◌, ℕ, ◌+◌, ◌≤◌, List, [], ◌∷◌, length, drop, Some, None, Ok, Err, Option, Result}
 use Rattle.refusal.specs.declared.Refusal.{Refusal}

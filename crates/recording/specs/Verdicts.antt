@@ -1,9 +1,9 @@
 -- What the reading call answers.
 -- faulty         the fault of a recording that is judged into a list of so many places: its first fault as it is read, or why the judgement of
 --                its moves is refused, then with the count of records and the length
--- TrulyRead     a verdict with these names is true of the recording: judging its moves is not refused, and the verdict is true of them, in
+-- TrulyRead      a verdict with these names is true of the recording: judging its moves is not refused, and the verdict is true of them, in
 --                the ledger's terms, for the recording's program
--- ReadAs        what the call answers and leaves in the list: a true verdict, with its names at the front and the rest as before; the
+-- ReadAs         what the call answers and leaves in the list: a true verdict, with its names at the front and the rest as before; the
 --                fault, and the list as before; or want of memory, and the list as before
 use Rattle.std.specs.Prelude.{◌≡◌, ℕ, ◌≤◌, List, map, length, take, drop, Some, None, Ok, Err, Option, Result}
 use Rattle.std.specs.Option.{option_map}

@@ -1,6 +1,6 @@
 // Which record some bytes begin with.
 ghost use Rattle.std.specs.Prelude.{◌≡◌, Some};
-ghost use Rattle.recording.specs.Layout.{drain as drain-shape, first_record, instruction as instruction-shape, long as long-value, run as run-shape, setup as setup-shape, shaped, size as type_size, word as word_value};
+ghost use Rattle.recording.specs.Layout.{drain as drain_shape, first_record, instruction as instruction_shape, long as long_value, run as run_shape, setup as setup_shape, shaped, size as record_size, word as word_value};
 
 use super::records::{Fields, Kind, Record, Setup};
 use refusal::Refusal;
@@ -8,7 +8,7 @@ use refusal::Refusal;
 impl Record {
     // Its whole length.
     pub fn size(self) -> usize
-        ensures { result ≡ type_size self }
+        ensures { result ≡ record_size self }
     {
         match self {
             Record::Setup(_) => 8,
@@ -27,7 +27,7 @@ fn word(low: u8, high: u8) -> u16
 
 // Four bytes as a number, the lowest first.
 fn long(b0: u8, b1: u8, b2: u8, b3: u8) -> u32
-    ensures { result ≡ long-value b0 b1 b2 b3 }
+    ensures { result ≡ long_value b0 b1 b2 b3 }
 {
     u32::from(word(b0, b1)) + 65536 * u32::from(word(b2, b3))
 }
@@ -50,7 +50,7 @@ pub fn first_record(bytes: &[u8]) -> Result<Record, Refusal>
 }
 
 fn setup(body: &[u8]) -> Result<Record, Refusal>
-    ensures { result ≡ shaped (Some setup-shape) body.now }
+    ensures { result ≡ shaped (Some setup_shape) body.now }
 {
     let [kind, zero, s0, s1, ..] = body else {
         return Err(Refusal::RecordCutShort);
@@ -69,7 +69,7 @@ fn setup(body: &[u8]) -> Result<Record, Refusal>
 }
 
 fn instruction(body: &[u8]) -> Result<Record, Refusal>
-    ensures { result ≡ shaped (Some instruction-shape) body.now }
+    ensures { result ≡ shaped (Some instruction_shape) body.now }
 {
     let [
         thread,
@@ -103,7 +103,7 @@ fn instruction(body: &[u8]) -> Result<Record, Refusal>
 }
 
 fn run(body: &[u8]) -> Result<Record, Refusal>
-    ensures { result ≡ shaped (Some run-shape) body.now }
+    ensures { result ≡ shaped (Some run_shape) body.now }
 {
     let [thread, instruction, ..] = body else {
         return Err(Refusal::RecordCutShort);
@@ -115,7 +115,7 @@ fn run(body: &[u8]) -> Result<Record, Refusal>
 }
 
 fn drain(body: &[u8]) -> Result<Record, Refusal>
-    ensures { result ≡ shaped (Some drain-shape) body.now }
+    ensures { result ≡ shaped (Some drain_shape) body.now }
 {
     let [thread, cell, ..] = body else {
         return Err(Refusal::RecordCutShort);

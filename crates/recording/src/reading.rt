@@ -1,7 +1,7 @@
 // Reading a recording and judging its run.
 ghost use Rattle.std.specs.Prelude.{◌≡◌, ◌+◌, ◌^◌, ◌<◌, ◌≤◌, [], length, drop, MatchResult};
 ghost use Rattle.program.specs.Programs.{lines_of};
-ghost use Rattle.recording.specs.Layout.{size as type_size};
+ghost use Rattle.recording.specs.Layout.{size as record_size};
 ghost use Rattle.recording.specs.Meaning.{chosen_by, moving, read_from, reading, records, rules_of};
 ghost use Rattle.recording.specs.Steps.{Adds, AtFault, Peeked, Starts, LineAdded, move_of, past_of};
 ghost use Rattle.recording.specs.Verdicts.{ReadAs, fault_at};
@@ -75,7 +75,7 @@ impl Place {
     // Where the record behind that one stands.
     fn past(self, passed: Record) -> Place
         requires index { self.index ≤ self.byte }
-        requires byte { self.byte + type_size passed < 2 ^ 64 }
+        requires byte { self.byte + record_size passed < 2 ^ 64 }
         ensures { result ≡ past_of self passed }
     {
         Place {

@@ -1,7 +1,7 @@
 -- What offering a move answers and leaves, over what the replay holds now.
 -- Offered        the answer to a move, and what the replay holds after it
 -- Acted          the action of an instruction, or why it is refused, and what the replay holds then. Only private calls speak of it
--- ActedAlone    the same for the forms that leave the buffer alone
+-- ActedAlone     the same for the forms that leave the buffer alone
 -- Forwarded      the source of a value that the buffer tells
 use Rattle.std.specs.Prelude.{◌≡◌, ℕ, List, Some, None, Ok, Err, Result}
 use Rattle.refusal.specs.declared.Refusal.{Refusal}

@@ -1,5 +1,5 @@
 -- What one call of a list answers, and what the replay holds after it, over what it holds now. Only private calls speak of it.
--- JudgedAs     a judgement into a list of so many places
+-- JudgedAs      a judgement into a list of so many places
 -- Answered      any call
 use Rattle.std.specs.Prelude.{◌≡◌, ℕ, ◌<◌, ◌≤◌, List, map, length, vec_items, MatchBool}
 use Rattle.refusal.specs.declared.Refusal.TheVariants.{StoreWaits, TooShort}

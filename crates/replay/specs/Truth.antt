@@ -2,12 +2,12 @@
 -- rules of the buffer's kind alone.
 -- history           the moves accepted since the last start: each accepted move joins them, a fresh start forgets them
 -- as_answer         the answer to a move, by its outcome
--- TrueVerdict      what makes a verdict true of those moves: `sequential` exactly if some sequentially consistent run of the program
+-- TrueVerdict       what makes a verdict true of those moves: `sequential` exactly if some sequentially consistent run of the program
 --                   has their trace, and then the list is such a run, every action once, each place with the lowest thread that
 --                   could come next; `violation` otherwise, and then the list is a ring of the trace's edges, of two or more
 --                   different actions, the lowest first; and how many threads delayed a store of their own
 -- Right             what makes an answer right, after those moves
--- VerdictsTrue     there is an answer to each call, and each is right after the moves accepted so far
+-- VerdictsTrue      there is an answer to each call, and each is right after the moves accepted so far
 use Rattle.std.specs.Prelude.{◌≡◌, ℕ, ◌<◌, List, [], ◌∷◌, ◌++◌, map, length, take, Some, None, Ok, Err, vec_items, Option, Result, slice_index_or}
 use Rattle.refusal.specs.declared.Refusal.{Refusal}
 use Rattle.program.specs.declared.lines.Line.{Line}

@@ -1,10 +1,10 @@
 -- What judging answers and writes, over what a replay holds now.
 -- FoundIn own w ns      the word w is right of the kept actions by these numbers of theirs: `Sequential` by an order of all, at each place
---                        the lowest that could come next, `Violation` by a ring, the lowest first
+--                       the lowest that could come next, `Violation` by a ring, the lowest first
 -- ListedIn              the list begins with the names of such numbers, and the rest of it is as before
 -- JudgedIn              what judging answers where nothing waits in the buffer
 -- JudgedHeld            what judging answers: 14 while a store waits in the buffer, then 15 where the list has fewer places than there are
---                        actions; a refusal leaves the list as it was
+--                       actions; a refusal leaves the list as it was
 use Rattle.std.specs.Prelude.{◌≡◌, ℕ, ◌<◌, ◌≤◌, List, map, length, take, drop, Ok, Err, MatchBool, Result}
 use Rattle.refusal.specs.declared.Refusal.{Refusal}
 use Rattle.refusal.specs.declared.Refusal.TheVariants.{StoreWaits, TooShort}

@@ -5,7 +5,7 @@ use Rattle.worked.specs.Table.{Table}
 use Rattle.worked.proofs.Fresh.{fresh}
 use Rattle.worked.proofs.Pairs.{of_dekker, of_fenced}
 
--- Half-late's trace is prompt's, so the verdict on prompt is its verdict too.
+-- The trace of half_late is prompt's, so the verdict on prompt is its verdict too.
 pub table : Table
 table = record {
   runs = worked_runs;

@@ -47,7 +47,7 @@ pub record Table : Type 0 where
   pub early_delays : delaying forwarding early ≡ 1
   -- the rings of late and swapped, and the order of prompt, list four actions
   pub four_names : length four ≡ 4
-  -- a thread that delayed is no violation yet: half-late is sequential, with the same list as prompt
+  -- a thread that delayed is no violation yet: half_late is sequential, with the same list as prompt
   pub half_late_verdict : ListsRun dekker (trace_after queue dekker half_late) four
   -- a fresh replay is judged into a list of no places
   pub fresh_judged : judge_tested start 0 ≡ None

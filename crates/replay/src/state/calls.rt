@@ -4,7 +4,7 @@ ghost use Rattle.std.specs.List.{slice_get};
 ghost use Rattle.std.specs.Option.{option_map};
 ghost use Rattle.program.specs.Programs.{lines_of};
 ghost use Rattle.program.specs.Ranges.{in_range, operand_in_range};
-ghost use Rattle.ledger.specs.Ledgers.{operand as operand-value};
+ghost use Rattle.ledger.specs.Ledgers.{operand as operand_value};
 ghost use Rattle.present.specs.Calls.{noted_drain};
 ghost use Rattle.present.specs.Data.{fresh, how_many_in, oldest_left, youngest_left};
 ghost use Rattle.present.specs.Joins.{delaying_in};
@@ -118,7 +118,7 @@ impl State {
     pub(crate) fn operand(&self, thread: usize, operand: Operand) -> u32
         requires thread { thread < 8 }
         requires ranged { operand_in_range operand ≡ true }
-        ensures { result ≡ operand-value ((present_of self.now).locals thread).registers operand }
+        ensures { result ≡ operand_value ((present_of self.now).locals thread).registers operand }
     {
         self.threads[thread].operand(operand)
     }

@@ -3,7 +3,7 @@ ghost use Rattle.std.specs.Prelude.{◌≡◌, ◌<◌, ◌≤◌, true, [], ◌
 ghost use Rattle.std.specs.List.{slice_get};
 ghost use Rattle.std.specs.Option.{option_map};
 ghost use Rattle.program.specs.Ranges.{in_range, operand_in_range};
-ghost use Rattle.ledger.specs.Ledgers.{operand as operand-value, start_local};
+ghost use Rattle.ledger.specs.Ledgers.{operand as operand_value, start_local};
 ghost use Rattle.ledger.specs.Moves.{ran};
 ghost use Rattle.present.specs.Calls.{overwriting};
 ghost use Rattle.present.specs.Data.{left_waiting, oldest_left, youngest_left};
@@ -80,7 +80,7 @@ impl Thread {
     // What an operand comes to.
     pub(crate) fn operand(&self, operand: Operand) -> u32
         requires { operand_in_range operand ≡ true }
-        ensures { result ≡ operand-value (local_of self.now).registers operand }
+        ensures { result ≡ operand_value (local_of self.now).registers operand }
     {
         match operand {
             Operand::Register(register) => self.registers[register as usize],

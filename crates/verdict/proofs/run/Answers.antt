@@ -9,6 +9,6 @@ within {before = before} p =
     let whole = ap length p.page ∙ length-append p.text (drop (length p.text) before) in
     omega arith
 
--- src/main.rt:22:27
+-- No more is written out than the page holds.
 pub slice_bounds-write_all-end : goal.slice_bounds-write_all-end
 slice_bounds-write_all-end c = omega (arith, within c.in-Ok.ensures)

@@ -1,7 +1,7 @@
 use Rattle.std.proofs.Common.{◌+◌, ◌<◌, length, get_or, drop, ap, ◌∙◌, arith}
 use Rattle.std.proofs.lemmas.Bool.{eq-eqb, ne_eqb}
 use Rattle.buffers.specs.Lists.{else_this, newest_to}
-use Rattle.buffers.specs.Stores.{blank, else_none, newest_here, newest_later, newest_done}
+use Rattle.buffers.proofs.Stores.{blank, else_none, newest_here, newest_later, newest_done}
 use Rattle.buffers.proofs.row.Row.newest.Goals as goal
 use Rattle.buffers.proofs.row.Row.newest.Goals.{then-store-cell, else-store-cell}
 

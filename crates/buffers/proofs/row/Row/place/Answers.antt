@@ -1,7 +1,7 @@
 use Rattle.std.proofs.Common.{◌<◌, ◌≤◌, length, get_or, sym, ap, ◌∙◌, arith}
 use Rattle.std.proofs.lemmas.Bool.{eq-eqb, ne_eqb}
 use Rattle.buffers.specs.Rows.{place_of}
-use Rattle.buffers.specs.Stores.{blank, place_here, place_later, place_none}
+use Rattle.buffers.proofs.Stores.{blank, place_here, place_later, place_none}
 use Rattle.buffers.proofs.row.Row.place.Goals as goal
 
 pub returns-then-store-cell : goal.returns-then-store-cell

@@ -1,5 +1,5 @@
 use Rattle.std.proofs.Common.{rules}
-use Rattle.buffers.specs.Stores.{ranged_push}
+use Rattle.buffers.proofs.Stores.{ranged_push}
 use Rattle.buffers.proofs.row.Row.put.Goals as goal
 
 pub invariant_of-self : goal.invariant_of-self

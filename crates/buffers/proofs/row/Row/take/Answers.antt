@@ -1,7 +1,7 @@
 use Rattle.std.proofs.Common.{◌≡◌, true, Some, sym, ap, ◌∙◌, subst, arith, rules}
 use Rattle.buffers.specs.Lists.{stores_in_range}
 use Rattle.buffers.specs.Rows.{stores_of}
-use Rattle.buffers.specs.Stores.{placed_at, ranged_without, unplaced}
+use Rattle.buffers.proofs.Stores.{placed_at, ranged_without, unplaced}
 use Rattle.buffers.proofs.row.Row.take.Goals as goal
 
 pub returns-in_err-place : goal.returns-in_err-place

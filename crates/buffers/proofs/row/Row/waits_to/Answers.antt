@@ -1,6 +1,6 @@
 use Rattle.std.proofs.Common.{is_some, ap, ◌∙◌}
 use Rattle.buffers.specs.Rows.{stores_of}
-use Rattle.buffers.specs.Stores.{place_waits}
+use Rattle.buffers.proofs.Stores.{place_waits}
 use Rattle.buffers.proofs.row.Row.waits_to.Goals as goal
 
 pub returns : goal.returns

@@ -1,7 +1,7 @@
 use Rattle.std.proofs.Common.{◌≡◌, ◌≤◌, true, false, get_or, is_some, sym, ap, ◌∙◌, arith, below_more}
 use Rattle.std.proofs.lemmas.Bool.{both_ways}
 use Rattle.buffers.specs.Lists.{list_of, waits_to}
-use Rattle.buffers.specs.Chosen.{chosen_found, chosen_none, newest_waits}
+use Rattle.buffers.proofs.Chosen.{chosen_found, chosen_none, newest_waits}
 use Rattle.buffers.proofs.strong.StrongCells.strong_waits.Goals as goal
 use Rattle.buffers.proofs.strong.StrongCells.strong_waits.Goals.{else-self-cell-via-then-self-cell+else-is_some, else-self-cell-via-else-self-cell}
 

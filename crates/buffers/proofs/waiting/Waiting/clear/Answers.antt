@@ -3,7 +3,7 @@ use lib.ListN.{length-map}
 use Rattle.std.proofs.lemmas.List.{take_all}
 use Rattle.buffers.specs.Rows.{stores_of}
 use Rattle.buffers.specs.declared.store.Store.{Store}
-use Rattle.buffers.specs.Rowed.{cleared_more}
+use Rattle.buffers.proofs.Rowed.{cleared_more}
 use Rattle.buffers.proofs.waiting.Waiting.clear.Goals as goal
 
 pub loop-row-preserved : goal.loop-row-preserved

@@ -1,5 +1,5 @@
 use Rattle.std.proofs.Common.{length, sym, ap, ◌∙◌, arith}
-use Rattle.buffers.specs.Rowed.{list_at, list_past}
+use Rattle.buffers.proofs.Rowed.{list_at, list_past}
 use Rattle.buffers.proofs.waiting.Waiting.count.Goals as goal
 
 pub returns-then-thread-ge-THREADS : goal.returns-then-thread-ge-THREADS

@@ -1,5 +1,5 @@
 use Rattle.std.proofs.Common.{sym, ◌∙◌, arith}
-use Rattle.buffers.specs.Rowed.{none_here, none_left, some_here}
+use Rattle.buffers.proofs.Rowed.{none_here, none_left, some_here}
 use Rattle.buffers.proofs.waiting.Waiting.is_empty.Goals as goal
 
 pub returns-then-len-gt0 : goal.returns-then-len-gt0

@@ -1,6 +1,6 @@
 use Rattle.std.proofs.Common.{sym, ap, ◌∙◌, arith}
 use Rattle.buffers.specs.Lists.{newest_to}
-use Rattle.buffers.specs.Rowed.{list_at, list_past}
+use Rattle.buffers.proofs.Rowed.{list_at, list_past}
 use Rattle.buffers.proofs.waiting.Waiting.newest.Goals as goal
 
 pub returns-then-thread-ge-THREADS : goal.returns-then-thread-ge-THREADS

@@ -1,7 +1,7 @@
 use Rattle.std.proofs.Common.{sym, ap, ◌∙◌, arith}
 use Rattle.std.proofs.lemmas.Bool.{le-ltb}
 use Rattle.buffers.specs.Kinds.{oldest_is_to}
-use Rattle.buffers.specs.Rowed.{list_at, list_past}
+use Rattle.buffers.proofs.Rowed.{list_at, list_past}
 use Rattle.buffers.proofs.waiting.Waiting.oldest_is_to.Goals as goal
 
 pub returns-then-thread-lt-THREADS : goal.returns-then-thread-lt-THREADS

@@ -3,7 +3,7 @@ use Rattle.std.proofs.lemmas.List.{map-set}
 use Rattle.buffers.specs.Calls.{store}
 use Rattle.buffers.specs.Rows.{stores_of}
 use Rattle.buffers.proofs.Calls.{put_taken}
-use Rattle.buffers.specs.Rowed.{list_at}
+use Rattle.buffers.proofs.Rowed.{list_at}
 use Rattle.buffers.proofs.waiting.Waiting.put.Goals as goal
 
 pub put-requires : goal.put-requires

@@ -3,7 +3,7 @@ use lib.ListN.{length-map}
 use Rattle.std.proofs.lemmas.List.{map-set, set_past}
 use Rattle.buffers.specs.Lists.{list_of, oldest_to, without_oldest}
 use Rattle.buffers.specs.Rows.{stores_of}
-use Rattle.buffers.specs.Rowed.{list_at, list_past}
+use Rattle.buffers.proofs.Rowed.{list_at, list_past}
 use Rattle.buffers.proofs.waiting.Waiting.take.Goals as goal
 
 pub returns-then-thread-ge-THREADS : goal.returns-then-thread-ge-THREADS

@@ -1,6 +1,6 @@
 use Rattle.std.proofs.Common.{◌+◌, true, false, map, drop, sym, ap, ◌∙◌}
 use Rattle.buffers.specs.Lists.{else_this}
-use Rattle.buffers.specs.Stores.{else_none}
+use Rattle.buffers.proofs.Stores.{else_none}
 use Rattle.present.specs.Data.{youngest_left}
 use Rattle.replay.specs.Views.{noted_of}
 use Rattle.replay.proofs.Keeping.{blank, youngest_done, youngest_step}

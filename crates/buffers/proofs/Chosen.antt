@@ -1,12 +1,11 @@
 -- Whether a store waits for one of the chosen cells, asked cell by cell.
-use Rattle.std.specs.Prelude.{◌≡◌, ℕ, ◌^◌, ◌<◌, Bool, true, false, cond, not, ◌&&◌, ◌||◌, List, [], ◌∷◌, get_or, is_some, Some, None, Option, ◌==◌, ◌≢◌, nat_lt, slice_index_or, refl}
+use Rattle.std.specs.Prelude.{◌≡◌, ℕ, ◌^◌, ◌<◌, Bool, true, false, cond, ◌&&◌, ◌||◌, List, [], ◌∷◌, get_or, is_some, Some, None, Option, ◌==◌, ◌≢◌, nat_lt, slice_index_or, refl}
 use Rattle.std.proofs.Common.{sym, ap, ◌∙◌}
 use Rattle.std.proofs.lemmas.Bool.{and_parts, both_ways, eq-eqb, eqb-true, ltb-true, or_from, or_left, or_right, true≢false}
 use Rattle.buffers.specs.Kinds.{has_chosen, strong}
-use Rattle.buffers.specs.Laws.{Lawful, Rules}
-use Rattle.buffers.specs.Lists.{else_this, list_of, newest_to, oldest_to, stores_in_range, waits_to}
+use Rattle.buffers.specs.Lists.{else_this, newest_to, oldest_to, stores_in_range, waits_to}
 use Rattle.buffers.specs.declared.store.Store.{Store}
-use Rattle.buffers.specs.Stores.{else_none}
+use Rattle.buffers.proofs.Stores.{else_none}
 
 else_some : (o : Option ℕ) (v : ℕ) → is_some (else_this o (Some v)) ≡ true
 else_some None v = refl
@@ -54,10 +53,3 @@ chosen_none chosen (s ∷ ss) ranged none =
     or_from (slice_index_or chosen s.cell false) (has_chosen chosen ss)
     (unchosen (slice_index_or chosen s.cell false) (λ strong. both_ways (waits_to s.cell (s ∷ ss)) (none s.cell cell strong) (waits_first s ss)))
     (chosen_none chosen ss both.1 (λ c below strong. waits_behind c s ss (none c below strong)))
-
--- Strong cells keep the laws of the kind below.
-pub strong_lawful : (chosen : List Bool) (below : Rules) → Lawful below → Lawful (strong chosen below)
-strong_lawful chosen below lawful = record {
-  step_in_range = λ ls t free. lawful.step_in_range ls t (and_parts (below.steps ls t) (not (has_chosen chosen (list_of ls t))) free).0;
-  drain_waits = lawful.drain_waits;
-}

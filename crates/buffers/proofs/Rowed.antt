@@ -1,8 +1,8 @@
 -- The lists of all threads, row by row.
-use Rattle.std.specs.Prelude.{◌≡◌, ℕ, zero, suc, ◌+◌, ◌<◌, ◌≤◌, true, false, ◌&&◌, List, [], ◌∷◌, ◌++◌, map, length, take, drop, set, replicate, slice_index_or, slice_set, refl}
+use Rattle.std.specs.Prelude.{◌≡◌, ℕ, ◌+◌, ◌<◌, ◌≤◌, true, false, ◌&&◌, List, [], ◌∷◌, ◌++◌, map, length, take, drop, set, replicate, slice_index_or, slice_set, refl}
 use Rattle.std.proofs.Common.{arith, sym, ap, ◌∙◌}
 use Rattle.std.proofs.lemmas.List.{at_drop_more, at_drop_all, get_or-map, get_or_past, map-set, replicate_more, take_more_set, length-map}
-use Rattle.buffers.specs.Lists.{Good, list_of, none_of, nothing_waits, stores_in_range}
+use Rattle.buffers.specs.Lists.{list_of, none_of, nothing_waits}
 use Rattle.buffers.specs.Rows.{stores_of}
 use Rattle.buffers.specs.declared.row.Row.{Row}
 use Rattle.buffers.specs.declared.store.Store.{Store}
@@ -45,17 +45,3 @@ cleared_more rows t row within empty so_far =
     ∙ take_more_set (map stores_of rows) t [] (omega (arith, length-map rows stores_of))
     ∙ ap (λ l. l ++ [] ∷ []) so_far
     ∙ replicate_more t []
-
--- Every list is short, and every store in it is in range: so each row says.
-few_in : (rows : List Row) (t : ℕ) → length (list_of (map stores_of rows) t) ≤ 16
-few_in [] t = omega arith
-few_in (row ∷ rows) zero = omega (arith, row.few, row.stores.ok.0)
-few_in (row ∷ rows) (suc t) = few_in rows t
-
-ranged_in : (rows : List Row) (t : ℕ) → stores_in_range (list_of (map stores_of rows) t) ≡ true
-ranged_in [] t = refl
-ranged_in (row ∷ rows) zero = row.ranged
-ranged_in (row ∷ rows) (suc t) = ranged_in rows t
-
-pub good_in : (rows : List Row) → length rows ≡ 8 → Good (map stores_of rows)
-good_in rows eight = record { eight = length-map rows stores_of ∙ eight; few = few_in rows; ranged = ranged_in rows }
