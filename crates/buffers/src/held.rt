@@ -1,5 +1,4 @@
-// Holds one value of any type. Rattle lets no array of rows out of a struct that names it, so a struct with such an array could
-// not be dropped. Out of this one it goes as a value of any type.
+// Holds one value of any type, and lets go of it as a whole: the array of rows goes out of a struct by way of this one.
 pub struct Held<T> {
     pub(crate) value: T,
 }
