@@ -2,16 +2,15 @@
 // refusal finds its number and its layer here.
 #![tactic(auto)]
 
-ghost use Rattle.std.specs.Prelude.{◌≡◌};
+ghost use Rattle.std.specs.Prelude.{◌≡◌, ◌↔◌, ◌==◌, IsTrue};
 ghost use Rattle.refusal.specs.Refusals.{number_of, layer_of};
 
-mod compare;
 #[cfg(test)]
 mod tests;
 mod text;
 
 // What went wrong. docs/refusals.md has the table.
-#[derive(Clone, Copy, Debug)]
+#[derive(Clone, Copy, PartialEq, Eq, Debug)]
 pub enum Refusal {
     // 128 instructions are there
     ProgramFull,
@@ -52,7 +51,7 @@ pub enum Refusal {
 }
 
 // The part of the product that refuses.
-#[derive(Clone, Copy, PartialEq, Eq, Debug)]
+#[derive(Clone, Copy, Debug, PartialEq, Eq)]
 pub enum Layer {
     Program,
     Buffer,
@@ -100,3 +99,9 @@ impl Refusal {
         }
     }
 }
+
+// The equality of refusals tells whether the two are the same. This call does nothing: its contract is the theorem.
+pub fn equality_tells_refusals_apart()
+    ensures value { (a b : Refusal) → ⟦<Refusal as PartialEq>⟧.eq a b ≡ (number_of a == number_of b) }
+    ensures same { (a b : Refusal) → IsTrue (⟦<Refusal as PartialEq>⟧.eq a b) ↔ (a ≡ b) }
+{}

@@ -29,3 +29,13 @@ fn every_refusal_has_its_number_and_layer(rt: HostRuntime) {
         assert_eq!(rt; refusal.layer(), layer);
     }
 }
+
+// The same refusal is equal to itself, and to no other.
+#[test]
+fn a_refusal_is_equal_to_itself_alone(rt: HostRuntime) {
+    for (a, first, _) in ALL {
+        for (b, second, _) in ALL {
+            assert_eq!(rt; a == b, first == second);
+        }
+    }
+}

@@ -3,6 +3,7 @@ ghost use Rattle.std.specs.Prelude.{Some};
 ghost use Rattle.refusal.specs.Texts.{layer_text, refusal_text};
 
 use super::{Layer, Refusal};
+use std::error::Error;
 use std::fmt;
 
 impl fmt::Display for Layer {
@@ -28,3 +29,5 @@ impl fmt::Display for Refusal {
         write!(f, "{number} {layer}")
     }
 }
+
+impl Error for Refusal {}
