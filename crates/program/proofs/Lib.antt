@@ -1,2 +1,1 @@
 pub mod Lookups
-pub mod Ranged

@@ -1,6 +1,5 @@
 -- in_range l        every field of the line l is in its range
--- all_in_range ls   so it is in every line of ls
-use Rattle.std.specs.Prelude.{ℕ, Bool, true, ◌&&◌, List, [], ◌∷◌, nat_lt}
+use Rattle.std.specs.Prelude.{ℕ, Bool, true, ◌&&◌, nat_lt}
 use Rattle.program.specs.declared.forms.Operand.{Operand}
 use Rattle.program.specs.declared.forms.Operand.TheVariants.{Register, Constant}
 use Rattle.program.specs.declared.forms.Instruction.{Instruction}
@@ -29,7 +28,3 @@ instruction_in_range (Assert condition) = operand_in_range condition
 
 abbrev pub in_range : Line → Bool
 in_range l = one_of_eight l.thread && (is_label l.label && (is_label l.next && instruction_in_range l.instruction))
-
-abbrev pub all_in_range : List Line → Bool
-all_in_range [] = true
-all_in_range (l ∷ ls) = in_range l && all_in_range ls

@@ -13,5 +13,5 @@ mod text;
 
 pub use forms::{Instruction, Operand};
 pub use lines::Line;
-pub use operations::Operation;
+pub use operations::{Operation, UnknownOperation};
 pub use table::Program;

@@ -1,6 +1,9 @@
 // The six operations on 32-bit numbers.
 ghost use Rattle.std.specs.Prelude.{◌≡◌};
-ghost use Rattle.program.specs.Operations.{result_of};
+ghost use Rattle.program.specs.Operations.{operation_of, result_of};
+
+use std::error::Error;
+use std::fmt;
 
 #[derive(Clone, Copy, PartialEq, Eq, Debug)]
 pub enum Operation {
@@ -10,6 +13,12 @@ pub enum Operation {
     ExclusiveOr,
     Equal,
     Less,
+}
+
+// A number that names no operation.
+#[derive(Clone, Copy, PartialEq, Eq, Debug)]
+pub struct UnknownOperation {
+    pub number: u8,
 }
 
 impl Operation {
@@ -27,3 +36,30 @@ impl Operation {
         }
     }
 }
+
+// The operations are numbered from 0 in the order above.
+impl TryFrom<u8> for Operation {
+    type Error = UnknownOperation;
+
+    ghost try_from_gives = { λ n r. r ≡ operation_of n };
+
+    fn try_from(number: u8) -> Result<Operation, UnknownOperation> {
+        match number {
+            0 => Ok(Operation::Sum),
+            1 => Ok(Operation::Difference),
+            2 => Ok(Operation::And),
+            3 => Ok(Operation::ExclusiveOr),
+            4 => Ok(Operation::Equal),
+            5 => Ok(Operation::Less),
+            _ => Err(UnknownOperation { number }),
+        }
+    }
+}
+
+impl fmt::Display for UnknownOperation {
+    fn fmt<W: fmt::Write>(&self, f: &mut fmt::Formatter<W>) -> fmt::Result {
+        write!(f, "no operation has the number {}", self.number)
+    }
+}
+
+impl Error for UnknownOperation {}

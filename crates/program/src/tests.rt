@@ -10,21 +10,11 @@ const HALF: u32 = 0x8000_0000;
 const LAST: u32 = u32::MAX;
 
 fn fence(thread: u8, label: u8, next: u8) -> Line {
-    Line {
-        thread,
-        label,
-        next,
-        instruction: Instruction::Fence,
-    }
+    Line::new(thread, label, next, Instruction::Fence)
 }
 
 fn standing(instruction: Instruction) -> Line {
-    Line {
-        thread: 0,
-        label: 1,
-        next: 2,
-        instruction,
-    }
+    Line::new(0, 1, 2, instruction)
 }
 
 // Every place of an instruction that names a register, with that register in it.
@@ -142,6 +132,7 @@ fn lines_are_read_by_number(rt: HostRuntime) -> Result<(), Fail> {
     assert_eq!(rt; program.line(1), Some(fence(3, 4, 5)));
     assert_eq!(rt; program.line(2), None);
     assert_eq!(rt; program.line(usize::MAX), None);
+    assert!(rt; program.lines() == [fence(0, 1, 2), fence(3, 4, 5)].as_slice());
     Ok(())
 }
 
@@ -166,6 +157,27 @@ fn operations_are_of_32_bits(rt: HostRuntime) {
     ];
     for (operation, a, b, result) in cases {
         assert_eq!(rt; operation.apply(a, b), result);
+    }
+}
+
+#[test]
+fn operations_are_numbered_from_0(rt: HostRuntime) {
+    let all = [
+        Operation::Sum,
+        Operation::Difference,
+        Operation::And,
+        Operation::ExclusiveOr,
+        Operation::Equal,
+        Operation::Less,
+    ];
+    for (number, operation) in (0u8..).zip(all) {
+        assert_eq!(rt; Operation::try_from(number), Ok(operation));
+    }
+    for number in [6, 7, 255] {
+        assert_eq!(rt;
+            Operation::try_from(number),
+            Err(UnknownOperation { number })
+        );
     }
 }
 

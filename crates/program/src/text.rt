@@ -11,15 +11,14 @@ impl fmt::Display for Operation {
     ghost output = { λ o. Some (operation_text o) };
 
     fn fmt<W: fmt::Write>(&self, f: &mut fmt::Formatter<W>) -> fmt::Result {
-        let word = match *self {
+        f.write_str(match self {
             Operation::Sum => "add",
             Operation::Difference => "sub",
             Operation::And => "and",
             Operation::ExclusiveOr => "xor",
             Operation::Equal => "eq",
             Operation::Less => "less",
-        };
-        write!(f, "{word}")
+        })
     }
 }
 
@@ -57,10 +56,12 @@ impl fmt::Display for Line {
     ghost output = { λ l. Some (line_text l) };
 
     fn fmt<W: fmt::Write>(&self, f: &mut fmt::Formatter<W>) -> fmt::Result {
-        let thread = self.thread;
-        let label = self.label;
-        let next = self.next;
-        let instruction = self.instruction;
+        let Line {
+            thread,
+            label,
+            next,
+            instruction,
+        } = *self;
         write!(f, "{thread} {label} {next} {instruction}")
     }
 }
