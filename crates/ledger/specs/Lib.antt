@@ -11,6 +11,7 @@ pub mod Nodes
 pub mod Orders
 pub mod Runs
 pub mod Tests
+pub mod Texts
 pub mod Theorems
 pub mod Verdicts
 pub mod Worked

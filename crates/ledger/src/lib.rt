@@ -3,6 +3,7 @@
 #![tactic(auto)]
 
 mod moves;
+mod text;
 mod theorems;
 
 pub use moves::Move;
