@@ -3,7 +3,7 @@ use Rattle.std.proofs.Common.{◌≡◌, ℕ, ◌<◌, Bool, true, false, ◌&&�
 use mathlib.Core.Path.{fun_ext}
 use Rattle.std.specs.List.{AllByRecursion}
 use Rattle.std.proofs.lemmas.List.{get_or-map}
-use Rattle.std.proofs.lemmas.Bool.{and_from, and_parts, cond-false, cond-true, eq-eqb, eqb-true, ltb-true, or_cases, true≢false}
+use Rattle.std.proofs.lemmas.Bool.{and_from, and_parts, cond-false, cond-true, eq-eqb, eqb-true, false_from_ne_true, ltb-true, or_cases, true≢false}
 use Rattle.program.specs.declared.lines.Line.{Line}
 use Rattle.ledger.specs.Actions.{Access, Name, Source, from, initial, loads, name, none, same, stores}
 use Rattle.ledger.specs.Edges.{after_source, edge, from_reads, is_action, next_in, program_order, reads_from, store_order, trace_of}
@@ -25,11 +25,6 @@ bool_same true y to back = sym (to refl)
 bool_same false true to back = back refl
 bool_same false false to back = refl
 
--- What fails to hold is false.
-never_true : (x : Bool) → (x ≡ true → ⊥) → x ≡ false
-never_true true never = absurd (never refl)
-never_true false never = refl
-
 -- Behind a test, only where it holds need two tests be the same.
 and_same : (x y z : Bool) → (x ≡ true → y ≡ z) → (x && y) ≡ (x && z)
 and_same true y z alike = alike refl
@@ -47,7 +42,7 @@ next_behind P x (y ∷ names) a b so all =
 -- The first stands next after none, where no name stands twice.
 first_after_none : (x : Name) (names : List Name) (a b : Name) → Lacks names x → same x b ≡ true → next_in (x ∷ names) a b ≡ false
 first_after_none x names a b lacks first =
-    never_true (next_in (x ∷ names) a b) (λ so. next_behind (λ d. d ≡ x → ⊥) x names a b so lacks (sym (same_true x b first)))
+    false_from_ne_true (next_in (x ∷ names) a b) (λ so. next_behind (λ d. d ≡ x → ⊥) x names a b so lacks (sym (same_true x b first)))
 
 -- A store behind another in its cell's list overwrote the one that it stands next after.
 over_behind : (x : Name) (names : List Name) (a b : Name) → NoTwice (x ∷ names) → is_over (from a) (overwrote (from x) names b) ≡ next_in (x ∷ names) a b

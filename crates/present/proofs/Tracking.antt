@@ -1,6 +1,7 @@
 -- What a replay holds at first agrees with the ledger of no moves; and the threads that it keeps as delaying are those that delayed.
-use Rattle.std.proofs.Common.{◌≡◌, ℕ, Bool, true, false, cond, ◌&&◌, ◌||◌, eqb, leb, List, [], ◌∷◌, ◌++◌, map, length, Some, None, Option, sym, refl, ap, ◌∙◌, subst, arith}
+use Rattle.std.proofs.Common.{◌≡◌, ℕ, cond, ◌&&◌, ◌||◌, eqb, leb, List, [], ◌∷◌, ◌++◌, map, length, Some, None, Option, sym, refl, ap, ◌∙◌, subst, arith}
 use mathlib.Core.Path.{fun_ext}
+use Rattle.std.proofs.Math.Bool.{or-false, or_assoc}
 use Rattle.std.proofs.lemmas.Bool.{eq-eqb, le-leb, ne_eqb}
 use Rattle.refusal.specs.declared.Refusal.{Refusal}
 use Rattle.program.specs.declared.lines.Line.{Line}
@@ -36,22 +37,12 @@ agrees_start = record {
 pub delays_agree : (ls : List Line) (ms : List Move) (h : Held) → Tracks ls ms h → delaying_in h.own ≡ delaying ls ms
 delays_agree ls ms h tracks = ap (λ f. sum_over (λ t. cond (f t) 1 0) threads) (fun_ext tracks)
 
--- A test or false is the test.
-or_false : (x : Bool) → (x || false) ≡ x
-or_false true = refl
-or_false false = refl
-
--- Alternatives may be grouped either way.
-or_regroup : (x y z : Bool) → (x || (y || z)) ≡ ((x || y) || z)
-or_regroup true y z = refl
-or_regroup false y z = refl
-
 -- A thread delayed with one more move if it had delayed, or if that move is such a run.
 pub delays_push : (ls : List Line) (l : Ledger) (t : ℕ) (ms : List Move) (m : Move) → delays ls l t (ms ++ m ∷ []) ≡ (delays ls l t ms || delays_by (after_moves ls l ms) t m)
-delays_push ls l t [] m = or_false (delays_by l t m)
+delays_push ls l t [] m = or-false (delays_by l t m)
 delays_push ls l t (x ∷ ms) m =
     ap (λ later. delays_by l t x || later) (delays_push ls (after_move ls l x) t ms m)
-    ∙ or_regroup (delays_by l t x) (delays ls (after_move ls l x) t ms) (delays_by (after_moves ls (after_move ls l x) ms) t m)
+    ∙ sym (or_assoc (delays_by l t x) (delays ls (after_move ls l x) t ms) (delays_by (after_moves ls (after_move ls l x) ms) t m))
 
 -- A drain leaves the threads that are kept as delaying as they were.
 drain_delayed : (h : Held) (t c : ℕ) (value left : Option ℕ) → (after_drain_held h t c value left).own.delayed ≡ h.own.delayed
@@ -76,11 +67,11 @@ module _ (rules : Rules) (ls : List Line) (ms : List Move) (h : Held) (agrees : 
       ap (λ o. (after_run_held h u n o).own.delayed t) p.there
       ∙ update_all h.own.delayed u (h.own.delayed u || leb 1 (length (waiting_of h u))) (λ v b. b ≡ (delays ls start v ms || (eqb u v && waits_here (l.waiting v))))
       (ap (λ b. b || leb 1 (length (waiting_of h u))) (tracks u) ∙ ap (λ b. delays ls start u ms || b) (waits ∙ ap (λ b. b && waits_here (l.waiting u)) (sym (eq-eqb u u refl))))
-      (λ v other. tracks v ∙ sym (or_false (delays ls start v ms)) ∙ ap (λ b. delays ls start v ms || (b && waits_here (l.waiting v))) (sym (ne_eqb u v (λ is. other (sym is)))))
+      (λ v other. tracks v ∙ sym (or-false (delays ls start v ms)) ∙ ap (λ b. delays ls start v ms || (b && waits_here (l.waiting v))) (sym (ne_eqb u v (λ is. other (sym is)))))
       t
   delayed_after (Drain u c) passed t =
       ap (λ f. f t) (drain_delayed h u c (oldest_to c (waiting_of h u)) (oldest_left 0 c (h.own.noted u)))
-      ∙ tracks t ∙ sym (or_false (delays ls start t ms))
+      ∙ tracks t ∙ sym (or-false (delays ls start t ms))
 
   -- Whether it is accepted or refused, an offered move that the two answer alike keeps the track.
   pub tracks_offer : (m : Move) → tested_held rules ls h m ≡ tested rules ls l m → Tracks ls (offered rules ls ms m) (after_offer_held rules ls h m)
