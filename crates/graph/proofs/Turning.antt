@@ -1,5 +1,5 @@
 -- How the way back from blocker to blocker comes to a ring and goes round it, and why the ring is written as it should be.
-use Rattle.std.proofs.Common.{◌≡◌, ℕ, zero, suc, ◌+◌, ◌-◌, ◌<◌, ◌≤◌, Bool, true, false, List, length, get_or, take, drop, set, replicate, sym, refl, ap, ◌∙◌, subst, inl, inr, suc-add, zero-add, add-one, arith, below_more}
+use Rattle.std.proofs.Common.{◌≡◌, ℕ, zero, suc, ◌+◌, ◌-◌, ◌<◌, ◌≤◌, Bool, true, false, List, length, get_or, take, drop, set, min, replicate, sym, refl, ap, ◌∙◌, subst, inl, inr, suc-add, zero-add, add-one, arith, below_more}
 use Rattle.std.proofs.lemmas.List.{length-set, length-replicate, get_or-set_same, get_or-set_other, drop-set-lt, get_or-take, length-take-le}
 use Rattle.std.proofs.lemmas.Bool.{cases_eq, cases_lt, both_ways}
 use Rattle.graph.specs.declared.ordering.Standing.{Standing}
@@ -123,30 +123,22 @@ turning_room s start low n node ring t apart =
       ])
     ]
 
--- A step of the walk round, for the lowest of the nodes up to `node`.
-turning_more : (s : List Standing) (start low low' n node : ℕ) → Closed s → OnRing s start → Turning s start low n node → (node ≡ start → ⊥)
-    → (k : ℕ) × (k < n + 1) × (back s k start ≡ low') → low' ≤ low → low' ≤ node → Turning s start low' (n + 1) (blocker_of s node)
-turning_more s start low low' n node closed ring t apart at l l' = record {
+-- The walk round goes on from `node`, which may be below all before it.
+pub turning_more : (s : List Standing) (start low n node : ℕ) → Closed s → OnRing s start → Turning s start low n node → (node ≡ start → ⊥)
+    → Turning s start (min low node) (n + 1) (blocker_of s node)
+turning_more s start low n node closed ring t apart = record {
   unplaced = closed.step node t.unplaced;
   some = omega arith;
   within = omega (arith, turning_room s start low n node ring t apart);
   here = back_more s n start ∙ ap (λ (v : ℕ). blocker_of s v) t.here;
   away = below_more _ _ t.away (λ h e. apart (sym t.here ∙ e));
-  lowest_at = at;
+  lowest_at =
+      elim (cases_lt node low) [
+        | inl l ↦ (n, omega arith, omega (arith, t.here))
+        | inr h ↦ (t.lowest_at.0, omega (arith, t.lowest_at.1), omega (arith, t.lowest_at.2))
+      ];
   lowest = below_more _ _ (λ k h. omega (arith, t.lowest k h)) (omega (arith, t.here));
 }
-
--- The walk round goes on from a node below all before it.
-pub turning_lower : (s : List Standing) (start low n node : ℕ) → Closed s → OnRing s start → Turning s start low n node → (node ≡ start → ⊥)
-    → node < low → Turning s start node (n + 1) (blocker_of s node)
-turning_lower s start low n node closed ring t apart l =
-    turning_more s start low node n node closed ring t apart (n, omega arith, t.here) (omega arith) (omega arith)
-
--- The walk round goes on from a node that is not below all before it.
-pub turning_higher : (s : List Standing) (start low n node : ℕ) → Closed s → OnRing s start → Turning s start low n node → (node ≡ start → ⊥)
-    → low ≤ node → Turning s start low (n + 1) (blocker_of s node)
-turning_higher s start low n node closed ring t apart l =
-    turning_more s start low low n node closed ring t apart (t.lowest_at.0, omega (arith, t.lowest_at.1), t.lowest_at.2) (omega arith) l
 
 -- The walk round has come back to `start`: from the lowest node it is as long, and comes back to that.
 pub turning_done : (s : List Standing) (start low n node : ℕ) → Closed s → OnRing s start → Turning s start low n node → node ≡ start → Turn s low n

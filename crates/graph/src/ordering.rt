@@ -18,9 +18,10 @@ pub enum Written {
     Ring(usize),
 }
 
-// How a node stands: in the order; with every node that has an edge to it there; or behind its blocker.
+// How a node stands: in the order; ready, since every node with an edge to it is there; or behind its blocker.
 #[derive(Clone, Copy, PartialEq, Eq, Default)]
 enum Standing {
+    // The default is what the unused places of a list hold.
     #[default]
     Placed,
     Ready,
@@ -196,9 +197,7 @@ impl Stuck {
         };
         let mut node = self.blocker(start);
         while node != start {
-            if node < ring.lowest {
-                ring.lowest = node;
-            }
+            ring.lowest = ring.lowest.min(node);
             ring.count += 1;
             node = self.blocker(node);
         }
