@@ -1,17 +1,11 @@
 -- How the blockers move up, and what holds of each node's standing meanwhile.
-use Rattle.std.proofs.Common.{◌≡◌, ℕ, ◌+◌, ◌<◌, ◌≤◌, Bool, true, false, List, length, get_or, set, sym, refl, ap, ◌∙◌, subst, arith, below_more}
+use Rattle.std.proofs.Common.{◌≡◌, ℕ, ◌+◌, ◌<◌, ◌≤◌, Bool, true, false, List, Option, Some, None, MatchOption, length, get_or, set, sym, ap, ◌∙◌, subst, inl, inr, arith, below_more}
 use Rattle.std.proofs.lemmas.List.{length-set, get_or-set_same, get_or-set_other, get_or-map, set-get_or, map-set, take_at}
-use Rattle.std.proofs.lemmas.Bool.{both_ways}
+use Rattle.std.proofs.lemmas.Bool.{cases_lt}
 use Rattle.std.specs.List.{refill}
 use Rattle.graph.specs.declared.ordering.Standing.{Standing}
 use Rattle.graph.specs.declared.ordering.Standing.TheVariants.{Placed, Ready, Behind}
 use Rattle.graph.specs.Placing.{is_placed, marks, Passed, Stands, Movable}
-
--- A node of another standing than placed is not marked, and one that is placed is.
-pub unplaced_if : (x : Standing) → (x ≡ Placed → ⊥) → is_placed x ≡ false
-unplaced_if Placed ne = absurd (ne refl)
-unplaced_if Ready ne = refl
-unplaced_if (Behind b) ne = refl
 
 -- The mark of a node says whether it is placed.
 pub mark_of : (standings : List Standing) (v : ℕ) → v < length standings → get_or (marks standings) v false ≡ is_placed (get_or standings v Placed)
@@ -21,16 +15,6 @@ mark_of standings v l = get_or-map is_placed standings v Placed false l
 pub written : (n : ℕ) (old lent : List Standing) (v : ℕ) (x : Standing) → lent ≡ old → n ≡ length old → refill n old (set lent v x) ≡ set old v x
 written n old lent v x same many =
     ap (λ (ys : List Standing). refill n old (set ys v x)) same ∙ take_at (set old v x) _ n (length-set old v x ∙ sym many)
-
--- A placed node blocks nothing.
-pub passed_placed : (joins : ℕ → ℕ → Bool) (placed : List Bool) (v b : ℕ) → Passed joins placed v b → get_or placed b false ≡ true
-    → Passed joins placed v (b + 1)
-passed_placed joins placed v b before marked = below_more _ _ before (λ leads. marked)
-
--- A node blocks only where an edge leads from it.
-pub passed_apart : (joins : ℕ → ℕ → Bool) (placed : List Bool) (v b : ℕ) → Passed joins placed v b → false ≡ joins b v
-    → Passed joins placed v (b + 1)
-passed_apart joins placed v b before none = below_more _ _ before (λ leads. absurd (both_ways (joins b v) (sym none) leads))
 
 -- What is known of the standings when those of the nodes below `at` have moved, if they were behind `from`.
 pub record Moved (joins : ℕ → ℕ → Bool) (size : ℕ) (placed : List Bool) (from at : ℕ) (standings : List Standing) : Type 0 where
@@ -66,3 +50,31 @@ moved_stay joins size placed from at standings m l elsewhere = record {
   done = below_more _ _ m.done ((m.ahead at (omega arith) l).elsewhere elsewhere);
   ahead = λ v h k. m.ahead v (omega arith) k;
 }
+
+-- The node that was found to block is the lowest one, or none does.
+pub stands_found : (joins : ℕ → ℕ → Bool) (size : ℕ) (placed : List Bool) (v from end : ℕ) (found : Option ℕ) (x : Standing) → end ≡ size
+    → Passed joins placed v from
+    → MatchOption found ((u : ℕ) → from ≤ u → u < end → joins u v ≡ true → get_or placed u false ≡ true)
+    (λ b. (from ≤ b) × (b < end) × ((get_or placed b false ≡ false) × (joins b v ≡ true))
+    × ((u : ℕ) → from ≤ u → u < b → joins u v ≡ true → get_or placed u false ≡ true))
+    → MatchOption found (x ≡ Ready) (λ b. x ≡ Behind b) → Stands joins size placed v x
+stands_found joins size placed v from end None x e before none is =
+    subst (Stands joins size placed v) (sym is) (passed_on size (λ u h l leads. none u h (omega arith) leads))
+  where
+    passed_on : (to : ℕ) → ((u : ℕ) → from ≤ u → u < to → joins u v ≡ true → get_or placed u false ≡ true) → Passed joins placed v to
+    passed_on to rest u l leads =
+        elim (cases_lt u from) [
+          | inl h ↦ before u h leads
+          | inr h ↦ rest u h l leads
+        ]
+stands_found joins size placed v from end (Some b) x e before some is =
+    subst (Stands joins size placed v) (sym is) (record {
+      within = omega arith;
+      passed = λ u l leads.
+          elim (cases_lt u from) [
+            | inl h ↦ before u h leads
+            | inr h ↦ some.3 u h l leads
+          ];
+      leads = some.2.1;
+      unplaced = some.2.0;
+    })

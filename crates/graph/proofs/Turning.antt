@@ -124,9 +124,9 @@ turning_room s start low n node ring t apart =
     ]
 
 -- The walk round goes on from `node`, which may be below all before it.
-pub turning_more : (s : List Standing) (start low n node : ℕ) → Closed s → OnRing s start → Turning s start low n node → (node ≡ start → ⊥)
-    → Turning s start (min low node) (n + 1) (blocker_of s node)
-turning_more s start low n node closed ring t apart = record {
+pub turning_more : (s : List Standing) (start low lower n node : ℕ) → lower ≡ min low node → Closed s → OnRing s start
+    → Turning s start low n node → (node ≡ start → ⊥) → Turning s start lower (n + 1) (blocker_of s node)
+turning_more s start low lower n node least closed ring t apart = record {
   unplaced = closed.step node t.unplaced;
   some = omega arith;
   within = omega (arith, turning_room s start low n node ring t apart);

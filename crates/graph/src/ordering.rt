@@ -132,12 +132,16 @@ impl Sorting {
         ensures unplaced { is_placed result ≡ false }
         ensures stands { Stands (G.Graph.joins graph.now) (G.Graph.size graph.now) (marks self.now.standings.items) node result }
     {
-        for blocker in from..graph.nodes() {
-            if self.standings[blocker] != Standing::Placed && graph.edge(blocker, node) {
-                return Standing::Behind(blocker);
-            }
-        }
-        Standing::Ready
+        (from..graph.nodes())
+            .find(|blocker| !self.is_placed(*blocker) && graph.edge(*blocker, node))
+            .map_or(Standing::Ready, |blocker| Standing::Behind(blocker))
+    }
+
+    // Whether the node is placed.
+    fn is_placed(&self, node: usize) -> bool
+        ensures { result ≡ slice_index_or (marks self.now.standings.items) node false }
+    {
+        self.standings.get(node) == Some(&Standing::Placed)
     }
 
     // The lowest node that is ready.

@@ -1,21 +1,15 @@
-use Rattle.std.proofs.Common.{◌≡◌, ◌<◌, ℕ, Bool, true, List, length, get_or, ◌∙◌, arith, rules}
-use Rattle.graph.specs.declared.ordering.Standing.{Standing}
-use Rattle.graph.specs.declared.ordering.Standing.TheVariants.{Placed}
-use Rattle.graph.specs.Placing.{is_placed, marks}
-use Rattle.graph.proofs.Blocking.{mark_of, passed_placed, passed_apart}
+use Rattle.std.proofs.Common.{◌≡◌, ℕ, Bool, List, true, false, get_or, rules}
+use Rattle.std.proofs.lemmas.Iterator.{first_from_Range}
+use Rattle.graph.specs.Placing.{marks}
+use Rattle.graph.proofs.Blocking.{stands_found}
 use Rattle.graph.proofs.ordering.Sorting.standing_from.Goals as goal
-use Rattle.graph.proofs.ordering.Sorting.standing_from.Goals.{else-ne-via-then-ne+else-edge, else-ne-via-else-ne}
 
--- The node asked about is placed, or no edge leads from it.
-pub loop-blocker-preserved : goal.loop-blocker-preserved
-loop-blocker-preserved g c =
+-- Of the nodes from `from` on, the first that blocks is found, where there is one.
+pub returns-clause-stands : goal.returns-clause-stands
+returns-clause-stands g c =
     let joins : ℕ → ℕ → Bool = g.G.Graph.joins c.args.graph.now in
-    let standings : List Standing = c.args.self.now.standings.items in
-    let at : ℕ = c.loop-blocker.blocker in
-    elim c.else-ne.branch [
-      | else-ne-via-then-ne+else-edge w ↦ passed_apart joins (marks standings) c.args.node at c.loop-blocker.invariant w.if-edge.ensures
-      | else-ne-via-else-ne w ↦
-          let inside : at < length standings = omega (arith, c.nodes-blocker-end.ensures, c.requires.sized) in
-          let is : is_placed (get_or standings at Placed) ≡ true = search rules in
-          passed_placed joins (marks standings) c.args.node at c.loop-blocker.invariant (mark_of standings at inside ∙ is)
-    ]
+    let placed : List Bool = marks c.args.self.now.standings.items in
+    stands_found joins _ placed c.args.node c.args.from c.nodes.result c.find.result c.map_or.result c.nodes.ensures c.requires.passed
+    (first_from_Range _ _ _ c.find.result (λ b. (get_or placed b false ≡ false) × (joins b c.args.node ≡ true))
+    (λ b. joins b c.args.node ≡ true → get_or placed b false ≡ true) c.find.ensures.ran (λ x q k. search rules) (λ x q k. (search rules, λ leads. search rules)))
+    (search rules)

@@ -1,4 +1,4 @@
-use Rattle.std.proofs.Common.{◌≡◌, min, arith, rules}
+use Rattle.std.proofs.Common.{arith, rules}
 use Rattle.graph.proofs.Turning.{turning_first, turning_room, turning_more, turning_done}
 use Rattle.graph.proofs.ordering.Stuck.ring_of.Goals as goal
 
@@ -13,9 +13,8 @@ loop-node-smaller c =
 -- The node is below all before it, or not.
 pub loop-node-preserved : goal.loop-node-preserved
 loop-node-preserved c =
-    let lower : c.min.result ≡ min c.loop-node.ring.lowest c.loop-node.node = search rules in
-    rw (lower, c.blocker-node-in-loop-node.ensures.value)
-    (turning_more _ _ _ _ _ c.args.self.now.closed c.requires c.loop-node.invariant c.loop-node-test.true)
+    rw c.blocker-node-in-loop-node.ensures.value
+    (turning_more _ _ _ _ _ _ (search rules) c.args.self.now.closed c.requires c.loop-node.invariant c.loop-node-test.true)
 
 pub returns : goal.returns
 returns c = turning_done _ _ _ _ _ c.args.self.now.closed c.requires c.loop-node.invariant c.loop-node-test.false
