@@ -1,89 +1,85 @@
 -- How the order grows by one node, why the node that is placed is the right one, and what stands when none is ready.
-use Rattle.std.proofs.Common.{◌≡◌, ℕ, ◌+◌, ◌<◌, ◌≤◌, Bool, true, false, List, [], ◌∷◌, ◌++◌, length, get_or, take, drop, set, replicate, sym, ap, ◌∙◌, subst, inl, inr, arith, below_more}
-use Rattle.std.specs.List.{ContainsAt as Has}
+use Rattle.std.proofs.Common.{◌≡◌, ℕ, zero, suc, ◌<◌, ◌≤◌, Bool, true, false, not, List, [], ◌∷◌, ◌++◌, Some, None, length, get_or, take, drop, set, replicate, sym, refl, ap, ◌∙◌, subst, inl, inr, arith, below_more}
+use Rattle.std.specs.List.{ContainsAt as Has, position, position_or_len}
 use Rattle.std.proofs.ByRecursion.{has_append_left, has_push, has_push_cases}
-use Rattle.std.proofs.lemmas.List.{length-set, get_or-set_same, get_or-set_other, take-set-le, take_more_set, take-take, get_or-take, length-take-le, length-replicate, length-append, take_at, drop_at}
-use Rattle.std.proofs.lemmas.Bool.{cases_eq, cases_lt, cases_Bool, both_ways}
+use Rattle.std.proofs.lemmas.List.{length-set, length-append, length-map, length_push, get_or-set_same, get_or-set_other, get_or_append_left, get_or_push, get_or_past, length-replicate, take-append-le, take_at, drop_at, map-set}
+use Rattle.std.proofs.lemmas.List.Quantifiers.{position-Some}
+use Rattle.std.proofs.lemmas.List.Sums.{fails_before_first}
+use Rattle.std.proofs.lemmas.Bool.{cases_eq, cases_lt, cases_Bool, both_ways, lt-ltb, cond-true, not-false, not-true}
 use Rattle.graph.specs.declared.ordering.Sorting.{Sorting}
+use Rattle.graph.specs.declared.ordering.Standing.{Standing}
+use Rattle.graph.specs.declared.ordering.Standing.TheVariants.{Placed, Ready, Behind}
 use Rattle.graph.specs.Sorting.{Could, Next, Ordered, Front}
-use Rattle.graph.specs.Placing.{Movable, Blocked, front, Begun, Unplaced, FirstReady, NoneReady}
-use Rattle.graph.specs.Rings.{Closed}
+use Rattle.graph.specs.Placing.{is_placed, is_ready, marks, Blocks, Stands, Movable, missing, Blocked, Begun, Unplaced, NoneReady}
+use Rattle.graph.specs.Rings.{behind, blocker_of, Closed}
+use Rattle.graph.proofs.Blocking.{mark_of}
 use Rattle.graph.proofs.Counting.{missing_all, missing_some, missing_mark, missing_none}
-use Rattle.graph.proofs.Reaching.{all_false}
-
--- what is known once the node v is placed, and the blockers are bs
-abbrev pub put : Sorting → ℕ → List ℕ → Sorting
-put s v bs = record {
-  size = s.size;
-  count = s.count + 1;
-  order = set s.order s.count v;
-  placed = set s.placed v true;
-  blockers = bs;
-}
+use Rattle.graph.proofs.Reaching.{all_false, marked_keeps}
 
 -- A node that could come next is not marked.
-could_unmarked : (joins : ℕ → ℕ → Bool) (size : ℕ) (s : Sorting) (v : ℕ) → Begun joins size s → Could joins size (front s) v
-    → get_or s.placed v false ≡ false
+could_unmarked : (joins : ℕ → ℕ → Bool) (size : ℕ) (s : Sorting) (v : ℕ) → Begun joins size s → Could joins size s.order.items v
+    → get_or (marks s.standings.items) v false ≡ false
 could_unmarked joins size s v begun could =
-    elim (cases_Bool (get_or s.placed v false)) [
+    elim (cases_Bool (get_or (marks s.standings.items) v false)) [
       | inl m ↦ absurd (could.new (begun.listed v m))
       | inr e ↦ e
     ]
 
+-- There is a mark for each node.
+marks_sized : (joins : ℕ → ℕ → Bool) (size : ℕ) (s : Sorting) → Begun joins size s → length (marks s.standings.items) ≡ size
+marks_sized joins size s begun = length-map s.standings.items is_placed ∙ begun.sized
+
 -- A node that could come next leaves room for it in the order.
-pub room : (joins : ℕ → ℕ → Bool) (size : ℕ) (s : Sorting) (v : ℕ) → Begun joins size s → Could joins size (front s) v → s.count < size
+pub room : (joins : ℕ → ℕ → Bool) (size : ℕ) (s : Sorting) (v : ℕ) → Begun joins size s → Could joins size s.order.items v
+    → length s.order.items < size
 room joins size s v begun could =
     omega (
       arith,
       begun.counted,
-      missing_some size s.placed v (omega (arith, begun.placed_size, begun.few)) could.node (could_unmarked joins size s v begun could),
+      missing_some size (marks s.standings.items) v (omega (arith, marks_sized joins size s begun)) could.node (could_unmarked joins size s v begun could),
     )
 
--- A node that is marked stays so.
-put_keeps : (marks : List Bool) (v w : ℕ) → v < length marks → get_or marks w false ≡ true → get_or (set marks v true) w false ≡ true
-put_keeps marks v w l m =
-    elim (cases_eq w v) [
-      | inl e ↦ ap (λ (u : ℕ). get_or (set marks v true) u false) e ∙ get_or-set_same marks v true false l
-      | inr ne ↦ get_or-set_other marks v w true false ne ∙ m
-    ]
+-- Once the node v is placed, a standing other than behind v says still how a node stands.
+stands_movable : (joins : ℕ → ℕ → Bool) (size : ℕ) (placed : List Bool) (v w : ℕ) (x : Standing) → v < length placed → v < size
+    → Stands joins size placed w x → Movable joins size (set placed v true) v w x
+stands_movable joins size placed v w Placed inside l stands = record {
+  there = λ e. absurd (cc);
+  elsewhere = λ ne. tt;
+}
+stands_movable joins size placed v w Ready inside l stands = record {
+  there = λ e. absurd (cc);
+  elsewhere = λ ne u below leads. marked_keeps placed v u inside (stands u below leads);
+}
+stands_movable joins size placed v w (Behind b) inside l stands = record {
+  there = λ e u below leads. let same : b ≡ v = cc in marked_keeps placed v u inside (stands.passed u (omega arith) leads);
+  elsewhere = λ ne. record {
+    within = stands.within;
+    passed = λ u below leads. marked_keeps placed v u inside (stands.passed u below leads);
+    leads = stands.leads;
+    unplaced = get_or-set_other placed v b true false (λ e. ne (ap Behind e)) ∙ stands.unplaced;
+  };
+}
 
--- Once the node v is placed, the blockers that do not stand at v still block.
+-- Once the node v is placed, each node stands as before or behind v.
 pub put_movable : (joins : ℕ → ℕ → Bool) (size : ℕ) (s : Sorting) (v : ℕ) → Begun joins size s → v < size
-    → (w : ℕ) → w < size → Movable joins size (set s.placed v true) v w (get_or s.blockers w 0)
+    → (w : ℕ) → w < size → Movable joins size (marks (set s.standings.items v Placed)) v w (get_or (set s.standings.items v Placed) w Placed)
 put_movable joins size s v begun l w h =
-    let b = begun.blocked w h in
-    let inside : v < length s.placed = omega (arith, begun.placed_size, begun.few) in
-    record {
-      there = λ e u below leads. put_keeps s.placed v u inside (b.passed u (omega arith) leads);
-      elsewhere = λ ne. record {
-        within = b.within;
-        passed = λ u below leads. put_keeps s.placed v u inside (b.passed u below leads);
-        here = λ some. ((b.here some).0, get_or-set_other s.placed v (get_or s.blockers w 0) true false ne ∙ (b.here some).1);
-      };
-    }
-
--- The order is as it was, with the node at its end.
-put_front : (s : Sorting) (v : ℕ) (bs : List ℕ) → s.count < length s.order → front (put s v bs) ≡ front s ++ v ∷ []
-put_front s v bs l = take_more_set s.order s.count v l
-
--- The marked nodes are in the order when one more is placed.
-put_listed : (joins : ℕ → ℕ → Bool) (size : ℕ) (s : Sorting) (v : ℕ) (bs : List ℕ) → Begun joins size s → s.count < length s.order
-    → (w : ℕ) → get_or (put s v bs).placed w false ≡ true → Has (front (put s v bs)) w
-put_listed joins size s v bs begun l w m =
-    subst (λ (ns : List ℕ). Has ns w) (sym (put_front s v bs l))
+    subst (λ (ms : List Bool). Movable joins size ms v w (get_or (set s.standings.items v Placed) w Placed)) (sym (map-set is_placed s.standings.items v Placed))
     (elim (cases_eq w v) [
-      | inl e ↦ subst (Has (front s ++ v ∷ [])) (sym e) (has_push (front s) v)
-      | inr ne ↦ has_append_left (front s) (v ∷ []) w (begun.listed w (sym (get_or-set_other s.placed v w true false ne) ∙ m))
+      | inl e ↦ subst (Movable joins size after v w) (sym (here e)) (stands_movable joins size (marks s.standings.items) v w Placed inside l tt)
+      | inr ne ↦
+          subst (Movable joins size after v w) (sym (get_or-set_other s.standings.items v w Placed Placed ne))
+          (stands_movable joins size (marks s.standings.items) v w (get_or s.standings.items w Placed) inside l (begun.blocked w h))
     ])
+  where
+    after : List Bool
+    after = set (marks s.standings.items) v true
 
--- The nodes in the order are marked when one more is placed.
-put_marked : (joins : ℕ → ℕ → Bool) (size : ℕ) (s : Sorting) (v : ℕ) (bs : List ℕ) → Begun joins size s → s.count < length s.order
-    → v < length s.placed → (w : ℕ) → Has (front (put s v bs)) w → get_or (put s v bs).placed w false ≡ true
-put_marked joins size s v bs begun l inside w has =
-    elim (has_push_cases (front s) v w (subst (λ (ns : List ℕ). Has ns w) (put_front s v bs l) has)) [
-      | inl before ↦ put_keeps s.placed v w inside (begun.marked w before)
-      | inr e ↦ ap (λ (u : ℕ). get_or (set s.placed v true) u false) (sym e) ∙ get_or-set_same s.placed v true false inside
-    ]
+    inside : v < length (marks s.standings.items)
+    inside = omega (arith, marks_sized joins size s begun)
+
+    here : w ≡ v → get_or (set s.standings.items v Placed) w Placed ≡ Placed
+    here e = ap (λ (u : ℕ). get_or (set s.standings.items v Placed) u Placed) e ∙ get_or-set_same s.standings.items v Placed Placed (omega (arith, begun.sized))
 
 -- What comes next after a list comes next after an equal one.
 next_same : (joins : ℕ → ℕ → Bool) (size : ℕ) (ns ms : List ℕ) (v w : ℕ) → ms ≡ ns → w ≡ v → Next joins size ns v → Next joins size ms w
@@ -91,114 +87,164 @@ next_same joins size ns ms v w e e' n =
     subst (λ (l : List ℕ). Next joins size l w) (sym e) (subst (Next joins size ns) (sym e') n)
 
 -- A node that comes next is placed.
-pub put_begun : (joins : ℕ → ℕ → Bool) (size : ℕ) (s : Sorting) (v : ℕ) (bs : List ℕ) → Begun joins size s → Next joins size (front s) v
-    → length bs ≡ 256 → Blocked joins size (set s.placed v true) bs → Begun joins size (put s v bs)
-put_begun joins size s v bs begun next many blocked =
-    let r = room joins size s v begun next.could in
-    let inside : v < length s.placed = omega (arith, begun.placed_size, begun.few, next.could.node) in
-    let l : s.count < length s.order = omega (arith, begun.order_size, begun.few) in
-    record {
-      sized = begun.sized;
-      few = begun.few;
-      order_size = length-set s.order s.count v ∙ begun.order_size;
-      placed_size = length-set s.placed v true ∙ begun.placed_size;
-      blockers_size = many;
-      counted = omega (
-        arith,
-        begun.counted,
-        missing_mark size s.placed v (omega (arith, begun.placed_size, begun.few)) next.could.node (could_unmarked joins size s v begun next.could),
-      );
-      listed = put_listed joins size s v bs begun l;
-      marked = put_marked joins size s v bs begun l inside;
-      nexts = below_more _ _
-          (λ k h. next_same joins size _ _ _ _ (take-set-le k s.order s.count v (omega arith))
-          (get_or-set_other s.order s.count k v 0 (omega arith)) (begun.nexts k h))
-          (next_same joins size _ _ _ _ (take-set-le s.count s.order s.count v (omega arith))
-          (get_or-set_same s.order s.count v 0 l) next);
-      blocked = blocked;
-    }
+pub put_begun : (joins : ℕ → ℕ → Bool) (size : ℕ) (s t : Sorting) (v : ℕ) → Begun joins size s → Next joins size s.order.items v
+    → t.order.items ≡ s.order.items ++ v ∷ [] → marks t.standings.items ≡ marks (set s.standings.items v Placed)
+    → Blocked joins size t.standings.items → Begun joins size t
+put_begun joins size s t v begun next longer same blocked = record {
+  sized = sym (length-map t.standings.items is_placed) ∙ ap (λ (ms : List Bool). length ms) new ∙ length-set old v true ∙ sized;
+  few = begun.few;
+  counted = omega (
+    arith,
+    begun.counted,
+    ap (λ (ns : List ℕ). length ns) longer,
+    length_push before v,
+    ap (missing size) new,
+    missing_mark size old v (omega (arith, sized)) next.could.node (could_unmarked joins size s v begun next.could),
+  );
+  listed = λ w m.
+      subst (λ (ns : List ℕ). Has ns w) (sym longer)
+      (elim (cases_eq w v) [
+        | inl e ↦ subst (Has (before ++ v ∷ [])) (sym e) (has_push before v)
+        | inr ne ↦ has_append_left before (v ∷ []) w (begun.listed w (sym (get_or-set_other old v w true false ne) ∙ sym (mark w) ∙ m))
+      ]);
+  marked = λ w has.
+      mark w
+      ∙ (elim (has_push_cases before v w (subst (λ (ns : List ℕ). Has ns w) longer has)) [
+        | inl there ↦ marked_keeps old v w inside (begun.marked w there)
+        | inr e ↦ ap (λ (u : ℕ). get_or (set old v true) u false) (sym e) ∙ get_or-set_same old v true false inside
+      ]);
+  nexts = λ k l.
+      subst (λ (ns : List ℕ). Next joins size (take k ns) (get_or ns k 0)) (sym longer)
+      (below_more (λ (j : ℕ). Next joins size (take j (before ++ v ∷ [])) (get_or (before ++ v ∷ []) j 0)) (length before) earlier last k
+      (omega (arith, ap (λ (ns : List ℕ). length ns) longer, length_push before v)));
+  blocked = blocked;
+}
+  where
+    before : List ℕ
+    before = s.order.items
 
--- what is known before a node is placed
-abbrev pub nothing : ℕ → List ℕ → Sorting
-nothing size bs = record { size = size; count = 0; order = replicate 256 0; placed = replicate 256 false; blockers = bs }
+    old : List Bool
+    old = marks s.standings.items
 
--- Before a node is placed, every blocker may stand at the first node.
-pub nothing_movable : (joins : ℕ → ℕ → Bool) (size : ℕ) (placed : List Bool) (v b : ℕ) → b ≡ 0 → Movable joins size placed 0 v b
-nothing_movable joins size placed v b e = record {
+    sized : length old ≡ size
+    sized = marks_sized joins size s begun
+
+    inside : v < length old
+    inside = omega (arith, sized, next.could.node)
+
+    new : marks t.standings.items ≡ set old v true
+    new = same ∙ map-set is_placed s.standings.items v Placed
+
+    mark : (w : ℕ) → get_or (marks t.standings.items) w false ≡ get_or (set old v true) w false
+    mark w = ap (λ (ms : List Bool). get_or ms w false) new
+
+    earlier : (k : ℕ) → k < length before → Next joins size (take k (before ++ v ∷ [])) (get_or (before ++ v ∷ []) k 0)
+    earlier k h =
+        next_same joins size _ _ _ _ (take-append-le k before (v ∷ []) (omega arith)) (get_or_append_left before (v ∷ []) 0 k h) (begun.nexts k h)
+
+    last : Next joins size (take (length before) (before ++ v ∷ [])) (get_or (before ++ v ∷ []) (length before) 0)
+    last = next_same joins size _ _ _ _ (take_at before (v ∷ []) (length before) refl) (get_or_push before v 0 (length before) refl) next
+
+-- Before a node is placed, every node may stand behind the first.
+pub nothing_movable : (joins : ℕ → ℕ → Bool) (size : ℕ) (placed : List Bool) (v : ℕ) (x : Standing) → x ≡ Behind 0 → Movable joins size placed 0 v x
+nothing_movable joins size placed v x e = record {
   there = λ e' u below leads. absurd (omega arith);
   elsewhere = λ ne. absurd (ne e);
 }
 
 -- Before a node is placed, the order and the marks agree.
-pub nothing_begun : (joins : ℕ → ℕ → Bool) (size n : ℕ) (bs : List ℕ) → n ≡ size → size ≤ 256 → length bs ≡ 256
-    → Blocked joins size (replicate 256 false) bs → Begun joins size (nothing n bs)
-nothing_begun joins size n bs sized few many blocked = record {
-  sized = sized;
+pub nothing_begun : (joins : ℕ → ℕ → Bool) (size : ℕ) (s : Sorting) → size ≤ 256 → s.order.items ≡ []
+    → marks s.standings.items ≡ replicate size false → Blocked joins size s.standings.items → Begun joins size s
+nothing_begun joins size s few none unmarked blocked = record {
+  sized = sym (length-map s.standings.items is_placed) ∙ ap (λ (ms : List Bool). length ms) unmarked ∙ length-replicate size false;
   few = few;
-  order_size = length-replicate {A = ℕ} 256 0;
-  placed_size = length-replicate 256 false;
-  blockers_size = many;
-  counted = omega (arith, missing_all size 256 few);
-  listed = λ v m. absurd (both_ways (get_or (replicate 256 false) v false) (all_false 256 v) m);
-  marked = λ v has. absurd (omega (arith, has.1));
-  nexts = λ k l. absurd (omega arith);
+  counted = omega (arith, ap (λ (ns : List ℕ). length ns) none, ap (missing size) unmarked, missing_all size size (omega arith));
+  listed = λ v m. absurd (both_ways (get_or (replicate size false) v false) (all_false size v) (ap (λ (ms : List Bool). get_or ms v false) (sym unmarked) ∙ m));
+  marked = λ v has. absurd (omega (arith, (subst (λ (ns : List ℕ). Has ns v) none has).1));
+  nexts = λ k l. absurd (omega (arith, ap (λ (ns : List ℕ). length ns) none));
   blocked = blocked;
 }
 
--- A node that none blocks is ready.
-unblocked_could : (joins : ℕ → ℕ → Bool) (size : ℕ) (s : Sorting) (v : ℕ) → Begun joins size s
-    → ((u w : ℕ) → joins u w ≡ true → u < size) → Unplaced s v → get_or s.blockers v 0 ≡ s.size → Could joins size (front s) v
-unblocked_could joins size s v begun inside unplaced e =
-    let l : v < size = omega (arith, begun.sized, unplaced.0) in
-    record {
-      node = l;
-      new = λ has. both_ways (get_or s.placed v false) unplaced.1 (begun.marked v has);
-      ready = λ u leads. begun.listed u ((begun.blocked v l).passed u (omega (arith, begun.sized, inside u v leads)) leads);
-    }
+-- A standing that is ready is that one alone.
+ready_is : (x : Standing) → is_ready x ≡ true → x ≡ Ready
+ready_is Placed e = absurd (cc)
+ready_is Ready e = refl
+ready_is (Behind b) e = absurd (cc)
 
--- A node that could come next has no blocker.
-could_unblocked : (joins : ℕ → ℕ → Bool) (size : ℕ) (s : Sorting) (v : ℕ) → Begun joins size s → Could joins size (front s) v
-    → get_or s.blockers v 0 ≡ s.size
-could_unblocked joins size s v begun could =
-    let b = begun.blocked v could.node in
-    elim (cases_lt (get_or s.blockers v 0) size) [
-      | inl l ↦
-          absurd (both_ways (get_or s.placed (get_or s.blockers v 0) false) (b.here l).1
-          (begun.marked (get_or s.blockers v 0) (could.ready (get_or s.blockers v 0) (b.here l).0)))
-      | inr h ↦ omega (arith, begun.sized, b.within)
-    ]
+-- A node that is ready could come next.
+ready_could : (joins : ℕ → ℕ → Bool) (size : ℕ) (s : Sorting) (v : ℕ) → Begun joins size s
+    → ((u w : ℕ) → joins u w ≡ true → u < size) → v < size → get_or s.standings.items v Placed ≡ Ready → Could joins size s.order.items v
+ready_could joins size s v begun inside l e = record {
+  node = l;
+  new = λ has. both_ways (get_or (marks s.standings.items) v false) (mark_of s.standings.items v (omega (arith, begun.sized)) ∙ ap is_placed e) (begun.marked v has);
+  ready = λ u leads. begun.listed u (subst (Stands joins size (marks s.standings.items) v) e (begun.blocked v l) u (inside u v leads) leads);
+}
 
--- The lowest node that is not placed and that none blocks comes next.
+-- A node that could come next is ready.
+could_ready : (joins : ℕ → ℕ → Bool) (size : ℕ) (s : Sorting) (v : ℕ) → Begun joins size s → Could joins size s.order.items v
+    → is_ready (get_or s.standings.items v Placed) ≡ true
+could_ready joins size s v begun could =
+    cases (get_or s.standings.items v Placed) (begun.blocked v could.node)
+    (sym (mark_of s.standings.items v (omega (arith, begun.sized, could.node))) ∙ could_unmarked joins size s v begun could)
+  where
+    cases : (x : Standing) → Stands joins size (marks s.standings.items) v x → is_placed x ≡ false → is_ready x ≡ true
+    cases Placed stands e = absurd (cc)
+    cases Ready stands e = refl
+    cases (Behind b) stands e = absurd (both_ways (get_or (marks s.standings.items) b false) stands.unplaced (begun.marked b (could.ready b stands.leads)))
+
+-- The lowest node that is ready comes next.
 pub ready_next : (joins : ℕ → ℕ → Bool) (size : ℕ) (s : Sorting) (v : ℕ) → Begun joins size s
-    → ((u w : ℕ) → joins u w ≡ true → u < size) → FirstReady s v → Next joins size (front s) v
-ready_next joins size s v begun inside first = record {
-  could = unblocked_could joins size s v begun inside first.unplaced first.unblocked;
+    → ((u w : ℕ) → joins u w ≡ true → u < size) → position is_ready s.standings.items ≡ Some v → Next joins size s.order.items v
+ready_next joins size s v begun inside found = record {
+  could = ready_could joins size s v begun inside (omega (arith, first.0, begun.sized)) (ready_is _ first.1);
   lowest = λ w could.
       elim (cases_lt w v) [
-        | inl l ↦ absurd (first.lower w l (could_unmarked joins size s w begun could) (could_unblocked joins size s w begun could))
+        | inl l ↦ absurd (both_ways (is_ready (get_or s.standings.items w Placed)) (first.2 w l) (could_ready joins size s w begun could))
         | inr h ↦ h
       ];
 }
+  where
+    first : (v < length s.standings.items) × (is_ready (get_or s.standings.items v Placed) ≡ true)
+        × ((k : ℕ) → k < v → is_ready (get_or s.standings.items k Placed) ≡ false)
+    first = position-Some is_ready s.standings.items v Placed found
+
+-- Where no element passes a test, none does at any place.
+none_passes : {X : Type 0} (p : X → Bool) (xs : List X) (k : ℕ) (d : X) → position p xs ≡ None → k < length xs → p (get_or xs k d) ≡ false
+none_passes p xs k d none l =
+    elim (cases_lt (position_or_len p xs) (length xs)) [
+      | inl h ↦
+          let found : position p xs ≡ Some (position_or_len p xs) = cond-true _ _ _ (lt-ltb (position_or_len p xs) (length xs) h) in
+          absurd (cc)
+      | inr h ↦ fails_before_first p xs k d (omega arith)
+    ]
+
+-- Where the search finds no node that is ready, none is.
+pub none_ready : (standings : List Standing) → position is_ready standings ≡ None → NoneReady standings
+none_ready standings none v e =
+    elim (cases_lt v (length standings)) [
+      | inl l ↦ both_ways true (ap is_ready (sym e) ∙ none_passes is_ready standings v Placed none l) refl
+      | inr h ↦ apart (sym (get_or_past standings v Placed h) ∙ e)
+    ]
+  where
+    apart : Placed ≡ Ready → ⊥
+    apart e' = cc
 
 -- Where every node is placed, the order is complete.
-pub begun_ordered : (joins : ℕ → ℕ → Bool) (size : ℕ) (s : Sorting) → Begun joins size s → ((v : ℕ) → Unplaced s v → ⊥)
-    → Ordered joins size (take size s.order)
-begun_ordered joins size s begun all = record {
-  many = length-take-le size s.order (omega (arith, begun.order_size, begun.few));
-  all = λ v l. subst (λ (n : ℕ). Has (take n s.order) v) full (begun.listed v (marked v l));
-  next = λ k l.
-      next_same joins size _ _ _ _ (take-take k size s.order (omega arith)) (get_or-take size s.order k 0 l) (begun.nexts k (omega (arith, full)));
+pub begun_ordered : (joins : ℕ → ℕ → Bool) (size : ℕ) (s : Sorting) → Begun joins size s
+    → position (λ x. not (is_placed x)) s.standings.items ≡ None → Ordered joins size s.order.items
+begun_ordered joins size s begun none = record {
+  many = full;
+  all = λ v l. begun.listed v (marked v l);
+  next = λ k l. begun.nexts k (omega (arith, full));
 }
   where
-    marked : (v : ℕ) → v < size → get_or s.placed v false ≡ true
+    marked : (v : ℕ) → v < size → get_or (marks s.standings.items) v false ≡ true
     marked v l =
-        elim (cases_Bool (get_or s.placed v false)) [
-          | inl m ↦ m
-          | inr e ↦ absurd (all v (omega (arith, begun.sized), e))
-        ]
+        mark_of s.standings.items v (omega (arith, begun.sized))
+        ∙ not-false _ (none_passes (λ x. not (is_placed x)) s.standings.items v Placed none (omega (arith, begun.sized)))
 
-    full : s.count ≡ size
-    full = omega (arith, begun.counted, missing_none size s.placed (omega (arith, begun.placed_size, begun.few)) marked)
+    full : length s.order.items ≡ size
+    full = omega (arith, begun.counted, missing_none size (marks s.standings.items) (omega (arith, marks_sized joins size s begun)) marked)
 
 -- What is copied to the front of a list stands there, and the later places are as before.
 pub copied_front : (P : List ℕ → Type 0) (n : ℕ) (old ns : List ℕ) → length ns ≡ n → P ns → Front P n old (ns ++ drop n old)
@@ -208,24 +254,41 @@ copied_front P n old ns many p = record {
   later = drop_at ns (drop n old) n many;
 }
 
--- Where no node is ready, each node that is not placed is blocked by a node.
-stuck_inside : (joins : ℕ → ℕ → Bool) (size : ℕ) (s : Sorting) → Begun joins size s → NoneReady s → (v : ℕ) → Unplaced s v
-    → get_or s.blockers v 0 < size
-stuck_inside joins size s begun none v unplaced =
-    omega (arith, begun.sized, (begun.blocked v (omega (arith, begun.sized, unplaced.0))).within, none v unplaced)
+-- The node that is found to be not placed is not marked.
+pub found_unplaced : (standings : List Standing) (v : ℕ) → position (λ x. not (is_placed x)) standings ≡ Some v → Unplaced standings v
+found_unplaced standings v found =
+    let first = position-Some (λ x. not (is_placed x)) standings v Placed found in
+    (first.0, mark_of standings v first.0 ∙ not-true _ first.1)
+
+-- Where no node is ready, each node that is not placed stands behind another.
+stuck_behind : (joins : ℕ → ℕ → Bool) (size : ℕ) (s : Sorting) → Begun joins size s → NoneReady s.standings.items → (v : ℕ) → Unplaced s.standings.items v
+    → (get_or s.standings.items v Placed ≡ Behind (blocker_of s.standings.items v)) × Blocks joins size (marks s.standings.items) v (blocker_of s.standings.items v)
+stuck_behind joins size s begun none v unplaced =
+    cases (get_or s.standings.items v Placed) (begun.blocked v (omega (arith, begun.sized, unplaced.0)))
+    (sym (mark_of s.standings.items v unplaced.0) ∙ unplaced.1) (none v)
+  where
+    cases : (x : Standing) → Stands joins size (marks s.standings.items) v x → is_placed x ≡ false → (x ≡ Ready → ⊥)
+        → (x ≡ Behind (behind v x)) × Blocks joins size (marks s.standings.items) v (behind v x)
+    cases Placed stands e ne = absurd (cc)
+    cases Ready stands e ne = absurd (ne refl)
+    cases (Behind b) stands e ne = (refl, stands)
 
 -- Where no node is ready, an edge leads to each node that is not placed from its blocker.
-pub stuck_edge : (joins : ℕ → ℕ → Bool) (size : ℕ) (s : Sorting) → Begun joins size s → NoneReady s → (v : ℕ) → Unplaced s v
-    → joins (get_or s.blockers v 0) v ≡ true
-stuck_edge joins size s begun none v unplaced =
-    ((begun.blocked v (omega (arith, begun.sized, unplaced.0))).here (stuck_inside joins size s begun none v unplaced)).0
+pub stuck_edge : (joins : ℕ → ℕ → Bool) (size : ℕ) (s : Sorting) → Begun joins size s → NoneReady s.standings.items → (v : ℕ) → Unplaced s.standings.items v
+    → joins (blocker_of s.standings.items v) v ≡ true
+stuck_edge joins size s begun none v unplaced = (stuck_behind joins size s begun none v unplaced).1.leads
 
 -- Where no node is ready, the blocker of a node that is not placed is not placed either, so that the way back goes on.
-pub stuck_closed : (joins : ℕ → ℕ → Bool) (size : ℕ) (s : Sorting) → Begun joins size s → NoneReady s → Closed s
+pub stuck_closed : (joins : ℕ → ℕ → Bool) (size : ℕ) (s : Sorting) → Begun joins size s → NoneReady s.standings.items → Closed s.standings.items
 stuck_closed joins size s begun none = record {
   few = omega (arith, begun.sized, begun.few);
-  blockers_size = begun.blockers_size;
+  stands = λ v unplaced. (stuck_behind joins size s begun none v unplaced).0;
   step = λ v unplaced.
-      let l = stuck_inside joins size s begun none v unplaced in
-      (omega (arith, begun.sized), ((begun.blocked v (omega (arith, begun.sized, unplaced.0))).here l).1);
+      let here = (stuck_behind joins size s begun none v unplaced).1 in
+      (omega (arith, begun.sized, here.within), here.unplaced);
 }
+
+-- Before a node is placed, none is marked.
+pub marks_none : (n b : ℕ) → marks (replicate n (Behind b)) ≡ replicate n false
+marks_none zero b = refl
+marks_none (suc n) b = ap (λ (ms : List Bool). false ∷ ms) (marks_none n b)

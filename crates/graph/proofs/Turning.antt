@@ -1,67 +1,67 @@
 -- How the way back from blocker to blocker comes to a ring and goes round it, and why the ring is written as it should be.
-use Rattle.std.proofs.Common.{◌≡◌, ℕ, zero, suc, ◌+◌, ◌-◌, ◌<◌, ◌≤◌, Bool, true, false, List, length, get_or, take, drop, set, replicate, sym, refl, ap, ◌∙◌, subst, inl, inr, suc-add, zero-add, add-one, arith, below_more}
+use Rattle.std.proofs.Common.{◌≡◌, ℕ, zero, suc, ◌+◌, ◌-◌, ◌<◌, ◌≤◌, Bool, true, false, List, length, get_or, take, drop, set, min, replicate, sym, refl, ap, ◌∙◌, subst, inl, inr, suc-add, zero-add, add-one, arith, below_more}
 use Rattle.std.proofs.lemmas.List.{length-set, length-replicate, get_or-set_same, get_or-set_other, drop-set-lt, get_or-take, length-take-le}
 use Rattle.std.proofs.lemmas.Bool.{cases_eq, cases_lt, both_ways}
-use Rattle.graph.specs.declared.ordering.Sorting.{Sorting}
+use Rattle.graph.specs.declared.ordering.Standing.{Standing}
 use Rattle.graph.specs.Placing.{missing, Unplaced}
-use Rattle.graph.specs.Rings.{back, Closed, OnRing, Turn, Backward}
+use Rattle.graph.specs.Rings.{blocker_of, back, Closed, OnRing, Turn, Backward}
 use Rattle.graph.specs.Sorting.{Ringed}
 use Rattle.graph.proofs.Counting.{missing_all, missing_mark}
 use Rattle.graph.proofs.Reaching.{all_false}
 
 -- One step further back stands the blocker.
-back_more : (s : Sorting) (k v : ℕ) → back s (k + 1) v ≡ get_or s.blockers (back s k v) 0
+back_more : (s : List Standing) (k v : ℕ) → back s (k + 1) v ≡ blocker_of s (back s k v)
 back_more s k v = ap (λ (n : ℕ). back s n v) (add-one k)
 
 -- Some steps back, and then some more.
-back_add : (s : Sorting) (k n v : ℕ) → back s (k + n) v ≡ back s k (back s n v)
+back_add : (s : List Standing) (k n v : ℕ) → back s (k + n) v ≡ back s k (back s n v)
 back_add s zero n v = ap (λ (m : ℕ). back s m v) (zero-add n)
-back_add s (suc k) n v = ap (λ (m : ℕ). back s m v) (suc-add k n) ∙ ap (λ (w : ℕ). get_or s.blockers w 0) (back_add s k n v)
+back_add s (suc k) n v = ap (λ (m : ℕ). back s m v) (suc-add k n) ∙ ap (λ (w : ℕ). blocker_of s w) (back_add s k n v)
 
 -- As many steps back stands the same node.
-back_same : (s : Sorting) (k n v : ℕ) → k ≡ n → back s k v ≡ back s n v
+back_same : (s : List Standing) (k n v : ℕ) → k ≡ n → back s k v ≡ back s n v
 back_same s k n v e = ap (λ (m : ℕ). back s m v) e
 
 -- The way back from a node that is not placed has such nodes alone.
-back_unplaced : (s : Sorting) → Closed s → (k v : ℕ) → Unplaced s v → Unplaced s (back s k v)
+back_unplaced : (s : List Standing) → Closed s → (k v : ℕ) → Unplaced s v → Unplaced s (back s k v)
 back_unplaced s closed zero v u = u
 back_unplaced s closed (suc k) v u = closed.step (back s k v) (back_unplaced s closed k v u)
 
 -- The walk back from `start` where it stands at `node`: how many steps it took, and after how many it saw each node.
-pub record Walked (s : Sorting) (start : ℕ) (seen : List Bool) (node : ℕ) : Type 0 where
+pub record Walked (s : List Standing) (start : ℕ) (seen : List Bool) (node : ℕ) : Type 0 where
   pub steps : ℕ
   pub many : length seen ≡ 256
-  pub counted : steps + missing s.size seen ≡ s.size
+  pub counted : steps + missing (length s) seen ≡ length s
   pub unplaced : Unplaced s node
   pub here : back s steps start ≡ node
   pub when : (v : ℕ) → get_or seen v false ≡ true → (k : ℕ) × (k < steps) × (back s k start ≡ v)
 
 -- At first no node is seen.
-pub walked_none : (s : Sorting) (start : ℕ) → Closed s → Unplaced s start → Walked s start (replicate 256 false) start
+pub walked_none : (s : List Standing) (start : ℕ) → Closed s → Unplaced s start → Walked s start (replicate 256 false) start
 walked_none s start closed unplaced = record {
   steps = 0;
   many = length-replicate 256 false;
-  counted = omega (arith, missing_all s.size 256 closed.few);
+  counted = omega (arith, missing_all (length s) 256 closed.few);
   unplaced = unplaced;
   here = refl;
   when = λ v m. absurd (both_ways (get_or (replicate 256 false) v false) (all_false 256 v) m);
 }
 
 -- A node that is seen for the first time leaves one fewer to see.
-pub walked_fewer : (s : Sorting) (start : ℕ) (seen : List Bool) (node : ℕ) → Closed s → Walked s start seen node → get_or seen node false ≡ false
-    → missing s.size (set seen node true) + 1 ≡ missing s.size seen
+pub walked_fewer : (s : List Standing) (start : ℕ) (seen : List Bool) (node : ℕ) → Closed s → Walked s start seen node → get_or seen node false ≡ false
+    → missing (length s) (set seen node true) + 1 ≡ missing (length s) seen
 walked_fewer s start seen node closed w new =
-    missing_mark s.size seen node (omega (arith, w.many, closed.few)) w.unplaced.0 new
+    missing_mark (length s) seen node (omega (arith, w.many, closed.few)) w.unplaced.0 new
 
 -- The walk goes on from a node that it had not seen.
-pub walked_more : (s : Sorting) (start : ℕ) (seen : List Bool) (node : ℕ) → Closed s → Walked s start seen node → get_or seen node false ≡ false
-    → Walked s start (set seen node true) (get_or s.blockers node 0)
+pub walked_more : (s : List Standing) (start : ℕ) (seen : List Bool) (node : ℕ) → Closed s → Walked s start seen node → get_or seen node false ≡ false
+    → Walked s start (set seen node true) (blocker_of s node)
 walked_more s start seen node closed w new = record {
   steps = w.steps + 1;
   many = length-set seen node true ∙ w.many;
   counted = omega (arith, w.counted, walked_fewer s start seen node closed w new);
   unplaced = closed.step node w.unplaced;
-  here = back_more s w.steps start ∙ ap (λ (v : ℕ). get_or s.blockers v 0) w.here;
+  here = back_more s w.steps start ∙ ap (λ (v : ℕ). blocker_of s v) w.here;
   when = λ v m.
       elim (cases_eq v node) [
         | inl e ↦ (w.steps, omega arith, w.here ∙ sym e)
@@ -72,7 +72,7 @@ walked_more s start seen node closed w new = record {
 }
 
 -- The walk comes to a node that it had seen.
-pub walked_again : (s : Sorting) (start : ℕ) (seen : List Bool) (node : ℕ) → Walked s start seen node → get_or seen node false ≡ true
+pub walked_again : (s : List Standing) (start : ℕ) (seen : List Bool) (node : ℕ) → Walked s start seen node → get_or seen node false ≡ true
     → OnRing s node
 walked_again s start seen node w m =
     let before = w.when node m in
@@ -90,17 +90,17 @@ walked_again s start seen node w m =
 
 -- The walk round from `start` where it stands at `node` after `n` steps: it has not come back to `start` before, and the
 -- lowest node before `node` is `low`.
-pub record Turning (s : Sorting) (start low n node : ℕ) : Type 0 where
+pub record Turning (s : List Standing) (start low n node : ℕ) : Type 0 where
   pub unplaced : Unplaced s node
   pub some : 0 < n
-  pub within : n ≤ s.size
+  pub within : n ≤ length s
   pub here : back s n start ≡ node
   pub away : (k : ℕ) → k < n → 0 < k → back s k start ≡ start → ⊥
   pub lowest_at : (k : ℕ) × (k < n) × (back s k start ≡ low)
   pub lowest : (k : ℕ) → k < n → low ≤ back s k start
 
 -- The first step of the walk round.
-pub turning_first : (s : Sorting) (start : ℕ) → Closed s → OnRing s start → Turning s start start 1 (get_or s.blockers start 0)
+pub turning_first : (s : List Standing) (start : ℕ) → Closed s → OnRing s start → Turning s start start 1 (blocker_of s start)
 turning_first s start closed ring = record {
   unplaced = closed.step start ring.unplaced;
   some = omega arith;
@@ -112,7 +112,7 @@ turning_first s start closed ring = record {
 }
 
 -- The walk round that has not come back to `start` has a step to go.
-pub turning_room : (s : Sorting) (start low n node : ℕ) → OnRing s start → Turning s start low n node → (node ≡ start → ⊥) → n < s.size
+pub turning_room : (s : List Standing) (start low n node : ℕ) → OnRing s start → Turning s start low n node → (node ≡ start → ⊥) → n < length s
 turning_room s start low n node ring t apart =
     let m : ℕ = ring.round.0 in
     elim (cases_lt n m) [
@@ -123,33 +123,25 @@ turning_room s start low n node ring t apart =
       ])
     ]
 
--- A step of the walk round, for the lowest of the nodes up to `node`.
-turning_more : (s : Sorting) (start low low' n node : ℕ) → Closed s → OnRing s start → Turning s start low n node → (node ≡ start → ⊥)
-    → (k : ℕ) × (k < n + 1) × (back s k start ≡ low') → low' ≤ low → low' ≤ node → Turning s start low' (n + 1) (get_or s.blockers node 0)
-turning_more s start low low' n node closed ring t apart at l l' = record {
+-- The walk round goes on from `node`, which may be below all before it.
+pub turning_more : (s : List Standing) (start low lower n node : ℕ) → lower ≡ min low node → Closed s → OnRing s start
+    → Turning s start low n node → (node ≡ start → ⊥) → Turning s start lower (n + 1) (blocker_of s node)
+turning_more s start low lower n node least closed ring t apart = record {
   unplaced = closed.step node t.unplaced;
   some = omega arith;
   within = omega (arith, turning_room s start low n node ring t apart);
-  here = back_more s n start ∙ ap (λ (v : ℕ). get_or s.blockers v 0) t.here;
+  here = back_more s n start ∙ ap (λ (v : ℕ). blocker_of s v) t.here;
   away = below_more _ _ t.away (λ h e. apart (sym t.here ∙ e));
-  lowest_at = at;
+  lowest_at =
+      elim (cases_lt node low) [
+        | inl l ↦ (n, omega arith, omega (arith, t.here))
+        | inr h ↦ (t.lowest_at.0, omega (arith, t.lowest_at.1), omega (arith, t.lowest_at.2))
+      ];
   lowest = below_more _ _ (λ k h. omega (arith, t.lowest k h)) (omega (arith, t.here));
 }
 
--- The walk round goes on from a node below all before it.
-pub turning_lower : (s : Sorting) (start low n node : ℕ) → Closed s → OnRing s start → Turning s start low n node → (node ≡ start → ⊥)
-    → node < low → Turning s start node (n + 1) (get_or s.blockers node 0)
-turning_lower s start low n node closed ring t apart l =
-    turning_more s start low node n node closed ring t apart (n, omega arith, t.here) (omega arith) (omega arith)
-
--- The walk round goes on from a node that is not below all before it.
-pub turning_higher : (s : Sorting) (start low n node : ℕ) → Closed s → OnRing s start → Turning s start low n node → (node ≡ start → ⊥)
-    → low ≤ node → Turning s start low (n + 1) (get_or s.blockers node 0)
-turning_higher s start low n node closed ring t apart l =
-    turning_more s start low low n node closed ring t apart (t.lowest_at.0, omega (arith, t.lowest_at.1), t.lowest_at.2) (omega arith) l
-
 -- The walk round has come back to `start`: from the lowest node it is as long, and comes back to that.
-pub turning_done : (s : Sorting) (start low n node : ℕ) → Closed s → OnRing s start → Turning s start low n node → node ≡ start → Turn s low n
+pub turning_done : (s : List Standing) (start low n node : ℕ) → Closed s → OnRing s start → Turning s start low n node → node ≡ start → Turn s low n
 turning_done s start low n node closed ring t e = record {
   unplaced = subst (Unplaced s) at (back_unplaced s closed a start ring.unplaced);
   some = t.some;
@@ -203,14 +195,14 @@ turning_done s start low n node closed ring t e = record {
         ∙ sym (back_add s (n - a) a start) ∙ back_same s (n - a + a) n start (omega (arith, t.lowest_at.1)) ∙ around)
 
 -- The list where the places from `at` on have been written, and the last of them holds `node`.
-pub record Writing (s : Sorting) (low n : ℕ) (old : List ℕ) (at node : ℕ) (list : List ℕ) : Type 0 where
+pub record Writing (s : List Standing) (low n : ℕ) (old : List ℕ) (at node : ℕ) (list : List ℕ) : Type 0 where
   pub unplaced : Unplaced s node
   pub here : back s (n - at) low ≡ node
   pub written : (k : ℕ) → at ≤ k → k < n → get_or list k 0 ≡ back s (n - k) low
   pub later : drop n list ≡ drop n old
 
 -- Nothing is written.
-pub writing_none : (s : Sorting) (low n : ℕ) (old : List ℕ) → Unplaced s low → Writing s low n old n low old
+pub writing_none : (s : List Standing) (low n : ℕ) (old : List ℕ) → Unplaced s low → Writing s low n old n low old
 writing_none s low n old unplaced = record {
   unplaced = unplaced;
   here = back_same s (n - n) 0 low (omega arith);
@@ -219,8 +211,8 @@ writing_none s low n old unplaced = record {
 }
 
 -- One place more is written.
-pub writing_more : (s : Sorting) (low n : ℕ) (old : List ℕ) (at node : ℕ) (list : List ℕ) → Closed s → Writing s low n old at node list
-    → 0 < at → at ≤ n → n ≤ length list → Writing s low n old (at - 1) (get_or s.blockers node 0) (set list (at - 1) (get_or s.blockers node 0))
+pub writing_more : (s : List Standing) (low n : ℕ) (old : List ℕ) (at node : ℕ) (list : List ℕ) → Closed s → Writing s low n old at node list
+    → 0 < at → at ≤ n → n ≤ length list → Writing s low n old (at - 1) (blocker_of s node) (set list (at - 1) (blocker_of s node))
 writing_more s low n old at node list closed w some within fits = record {
   unplaced = closed.step node w.unplaced;
   here = here;
@@ -235,14 +227,14 @@ writing_more s low n old at node list closed w some within fits = record {
 }
   where
     next : ℕ
-    next = get_or s.blockers node 0
+    next = blocker_of s node
 
-    here : back s (n - (at - 1)) low ≡ get_or s.blockers node 0
-    here = back_same s (n - (at - 1)) (n - at + 1) low (omega arith) ∙ back_more s (n - at) low ∙ ap (λ (v : ℕ). get_or s.blockers v 0) w.here
+    here : back s (n - (at - 1)) low ≡ blocker_of s node
+    here = back_same s (n - (at - 1)) (n - at + 1) low (omega arith) ∙ back_more s (n - at) low ∙ ap (λ (v : ℕ). blocker_of s v) w.here
 
 -- Where an edge leads to each node from its blocker, the way back, written from the last place to the first, is a ring.
-pub written_ringed : (joins : ℕ → ℕ → Bool) (s : Sorting) (low n : ℕ) (list : List ℕ) → Closed s
-    → ((v : ℕ) → Unplaced s v → joins (get_or s.blockers v 0) v ≡ true) → Turn s low n → n ≤ length list → Backward s low n list
+pub written_ringed : (joins : ℕ → ℕ → Bool) (s : List Standing) (low n : ℕ) (list : List ℕ) → Closed s
+    → ((v : ℕ) → Unplaced s v → joins (blocker_of s v) v ≡ true) → Turn s low n → n ≤ length list → Backward s low n list
     → Ringed joins (take n list)
 written_ringed joins s low n list closed edges t fits written = record {
   some = omega (arith, many, t.some);
@@ -279,5 +271,5 @@ written_ringed joins s low n list closed edges t fits written = record {
     -- an edge leads to each node from the one a step further back
     leads : (u v k : ℕ) → v ≡ back s k low → u ≡ back s (k + 1) low → joins u v ≡ true
     leads u v k e e' =
-        subst (λ (w : ℕ). joins w v ≡ true) (sym (e' ∙ back_more s k low ∙ ap (λ (w : ℕ). get_or s.blockers w 0) (sym e)))
+        subst (λ (w : ℕ). joins w v ≡ true) (sym (e' ∙ back_more s k low ∙ ap (λ (w : ℕ). blocker_of s w) (sym e)))
         (edges v (subst (Unplaced s) (sym e) (back_unplaced s closed k low t.unplaced)))

@@ -1,5 +1,4 @@
 pub mod Chains
-pub mod Found
 pub mod Laws
 pub mod Placing
 pub mod Rings

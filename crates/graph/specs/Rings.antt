@@ -1,32 +1,42 @@
--- back s k v             the node k steps back from v, from each node to its blocker
--- Closed s               one step back from a node that is not placed stands such a node
--- OnRing s v             v is not placed, and some steps back from it, at most as many as there are nodes, it stands again
--- Turn s low n           n steps back from low it stands again, the nodes on the way are different, and low is the lowest
--- Backward s low n ns    the first n numbers of ns are the way back from low, from the last place to the first
-use Rattle.std.specs.Prelude.{◌≡◌, ℕ, zero, suc, ◌-◌, ◌<◌, ◌≤◌, List, length, ◌≢◌, slice_index}
-use Rattle.graph.specs.declared.ordering.Sorting.{Sorting}
+-- blocker_of standings v         the node that v stands behind, or v where it stands behind none
+-- back standings k v             the node k steps back from v, from each node to its blocker
+-- Closed standings               there are at most 256 nodes, and each that is not placed stands behind such a node
+-- OnRing standings v             v is not placed, and some steps back from it, at most as many as there are nodes, it stands again
+-- Turn standings low n           n steps back from low it stands again, the nodes on the way are different, and low is the lowest
+-- Backward standings low n ns    the first n numbers of ns are the way back from low, from the last place to the first
+use Rattle.std.specs.Prelude.{◌≡◌, ℕ, zero, suc, ◌-◌, ◌<◌, ◌≤◌, List, length, ◌≢◌, slice_index, slice_index_or}
+use Rattle.graph.specs.declared.ordering.Standing.{Standing}
+use Rattle.graph.specs.declared.ordering.Standing.TheVariants.{Placed, Ready, Behind}
 use Rattle.graph.specs.Placing.{Unplaced}
 
-abbrev pub back : Sorting → ℕ → ℕ → ℕ
-back s zero v = v
-back s (suc k) v = slice_index s.blockers (back s k v)
+abbrev pub behind : ℕ → Standing → ℕ
+behind v Placed = v
+behind v Ready = v
+behind v (Behind b) = b
 
-pub record Closed (s : Sorting) : Type 0 where
-  pub few : s.size ≤ 256
-  pub blockers_size : length s.blockers ≡ 256
-  pub step : (v : ℕ) → Unplaced s v → Unplaced s (slice_index s.blockers v)
+abbrev pub blocker_of : List Standing → ℕ → ℕ
+blocker_of standings v = behind v (slice_index_or standings v Placed)
 
-pub record OnRing (s : Sorting) (v : ℕ) : Type 0 where
-  pub unplaced : Unplaced s v
-  pub round : (n : ℕ) × (0 < n) × (n ≤ s.size) × (back s n v ≡ v)
+abbrev pub back : List Standing → ℕ → ℕ → ℕ
+back standings zero v = v
+back standings (suc k) v = blocker_of standings (back standings k v)
 
-pub record Turn (s : Sorting) (low n : ℕ) : Type 0 where
-  pub unplaced : Unplaced s low
+pub record Closed (standings : List Standing) : Type 0 where
+  pub few : length standings ≤ 256
+  pub stands : (v : ℕ) → Unplaced standings v → slice_index_or standings v Placed ≡ Behind (blocker_of standings v)
+  pub step : (v : ℕ) → Unplaced standings v → Unplaced standings (blocker_of standings v)
+
+pub record OnRing (standings : List Standing) (v : ℕ) : Type 0 where
+  pub unplaced : Unplaced standings v
+  pub round : (n : ℕ) × (0 < n) × (n ≤ length standings) × (back standings n v ≡ v)
+
+pub record Turn (standings : List Standing) (low n : ℕ) : Type 0 where
+  pub unplaced : Unplaced standings low
   pub some : 0 < n
-  pub within : n ≤ s.size
-  pub round : back s n low ≡ low
-  pub once : (i k : ℕ) → i < k → k < n → back s i low ≢ back s k low
-  pub lowest : (k : ℕ) → 0 < k → k < n → low < back s k low
+  pub within : n ≤ length standings
+  pub round : back standings n low ≡ low
+  pub once : (i k : ℕ) → i < k → k < n → back standings i low ≢ back standings k low
+  pub lowest : (k : ℕ) → 0 < k → k < n → low < back standings k low
 
-abbrev pub Backward : Sorting → ℕ → ℕ → List ℕ → Type 0
-Backward s low n ns = (k : ℕ) → k < n → slice_index ns k ≡ back s (n - k) low
+abbrev pub Backward : List Standing → ℕ → ℕ → List ℕ → Type 0
+Backward standings low n ns = (k : ℕ) → k < n → slice_index ns k ≡ back standings (n - k) low

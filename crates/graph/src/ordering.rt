@@ -1,13 +1,15 @@
 // An order of all nodes in which every edge leads onward, or a ring of nodes, which is why there is no such order. Each
-// node that is not placed yet waits for its blocker, the lowest node that is not placed and has an edge to it. The
-// blockers only move up, so that each ordered pair of nodes is asked of at most once; and where every node that is left
+// node that is not placed yet is ready, or waits for its blocker, the lowest node that is not placed and has an edge to it.
+// The blockers only move up, so that each ordered pair of nodes is asked of at most once; and where every node that is left
 // has a blocker, the way back from blocker to blocker comes to a ring.
-ghost use Rattle.std.specs.Prelude.{◌≡◌, ℕ, ◌+◌, ◌<◌, ◌≤◌, false, length, drop, MatchOption, slice_index};
-ghost use Rattle.graph.specs.Placing.{Passed, Blocks, Movable, Blocked, front, Begun, Unplaced, FirstReady, NoneReady};
-ghost use Rattle.graph.specs.Rings.{Closed, OnRing, Turn, Backward};
+ghost use Rattle.std.specs.Prelude.{◌≡◌, ℕ, ◌+◌, ◌<◌, ◌≤◌, false, not, length, drop, position, slice_index_or};
+ghost use Rattle.graph.specs.declared.ordering.Standing.TheVariants.{Placed};
+ghost use Rattle.graph.specs.Placing.{is_placed, is_ready, marks, Passed, Stands, Movable, Blocked, Begun, NoneReady, Unplaced};
+ghost use Rattle.graph.specs.Rings.{blocker_of, Closed, OnRing, Turn, Backward};
 ghost use Rattle.graph.specs.Sorting.{Next, Answered};
 
 use super::Graph;
+use arrayvec::ArrayVec;
 
 // What stands at the front of the list, and how many nodes that are.
 #[derive(Clone, Copy, PartialEq, Eq)]
@@ -16,15 +18,28 @@ pub enum Written {
     Ring(usize),
 }
 
-// The nodes placed so far, in their order and by number, and the blocker of each node: the number of nodes, `size`,
-// stands for none.
+// How a node stands: in the order; ready, since every node with an edge to it is there; or behind its blocker.
+#[derive(Clone, Copy, PartialEq, Eq, Default)]
+enum Standing {
+    // The default is what the unused places of a list hold.
+    #[default]
+    Placed,
+    Ready,
+    Behind(usize),
+}
+
+// The nodes placed so far, in their order, and how each node stands.
 #[derive(Drop)]
 struct Sorting {
-    size: usize,
-    count: usize,
-    order: [usize; 256],
-    placed: [bool; 256],
-    blockers: [usize; 256],
+    order: ArrayVec<usize, 256>,
+    standings: ArrayVec<Standing, 256>,
+}
+
+// Nodes none of which is ready: each that is not placed stands behind another.
+#[derive(Drop)]
+struct Stuck {
+    standings: ArrayVec<Standing, 256>,
+    ghost closed: { Closed standings.items },
 }
 
 // A ring: its lowest node, and how many nodes it has.
@@ -45,156 +60,165 @@ pub fn order_or_ring<G: Graph>(graph: &G, list: &mut [usize]) -> Option<Written>
     if list.len() < size {
         return None;
     }
-    let sorting = place_all(graph);
-    match lowest_unplaced(&sorting) {
+    let sorting = Sorting::new(graph);
+    match sorting.lowest_unplaced() {
         None => {
-            list[..size].copy_from_slice(&sorting.order[..size]);
+            list[..size].copy_from_slice(&sorting.order);
             Some(Written::Order(size))
         }
         Some(start) => {
-            let ring = ring_of(&sorting, on_ring(&sorting, start));
-            write_back(&sorting, ring, list);
+            let Sorting { standings, .. } = sorting;
+            let stuck = Stuck { standings };
+            let ring = stuck.ring_of(stuck.on_ring(start));
+            stuck.write_back(ring, list);
             Some(Written::Ring(ring.count))
         }
     }
 }
 
-// Places nodes as long as one is ready.
-fn place_all<G: Graph>(graph: &G) -> Sorting
-    ensures begun { Begun (G.Graph.joins graph.now) (G.Graph.size graph.now) result }
-    ensures stuck { NoneReady result }
-{
-    let placed = [false; 256];
-    let mut blockers = [0; 256];
-    move_up(graph, &placed, 0, &mut blockers);
-    let mut sorting = Sorting {
-        size: graph.nodes(),
-        count: 0,
-        order: [0; 256],
-        placed,
-        blockers,
-    };
-    while let Some(node) = lowest_ready(&sorting) {
-        place(graph, node, &mut sorting);
+impl Sorting {
+    // Places nodes as long as one is ready.
+    fn new<G: Graph>(graph: &G) -> Self
+        ensures begun { Begun (G.Graph.joins graph.now) (G.Graph.size graph.now) result }
+        ensures stuck { NoneReady result.standings.items }
+    {
+        let mut standings = ArrayVec::from([Standing::Behind(0); 256]);
+        standings.truncate(graph.nodes());
+        let mut sorting = Sorting {
+            order: ArrayVec::new(),
+            standings,
+        };
+        sorting.move_up(graph, 0);
+        while let Some(node) = sorting.lowest_ready() {
+            sorting.place(graph, node);
+        }
+        sorting
     }
-    sorting
-}
 
-// Puts the node at the end of the order, and moves the blockers that stood at it.
-fn place<G: Graph>(graph: &G, node: usize, sorting: &mut Sorting)
-    requires begun { Begun (G.Graph.joins graph.now) (G.Graph.size graph.now) sorting.old }
-    requires next { Next (G.Graph.joins graph.now) (G.Graph.size graph.now) (front sorting.old) node }
-    ensures begun { Begun (G.Graph.joins graph.now) (G.Graph.size graph.now) sorting.new }
-    ensures counted { sorting.new.count ≡ sorting.old.count + 1 }
-{
-    sorting.order[sorting.count] = node;
-    sorting.count += 1;
-    sorting.placed[node] = true;
-    move_up(graph, &sorting.placed, node, &mut sorting.blockers);
-}
+    // Puts the node at the end of the order, and moves the blockers that stood at it.
+    fn place<G: Graph>(&mut self, graph: &G, node: usize)
+        requires begun { Begun (G.Graph.joins graph.now) (G.Graph.size graph.now) self.old }
+        requires next { Next (G.Graph.joins graph.now) (G.Graph.size graph.now) self.old.order.items node }
+        ensures begun { Begun (G.Graph.joins graph.now) (G.Graph.size graph.now) self.new }
+        ensures counted { length self.new.order.items ≡ length self.old.order.items + 1 }
+    {
+        self.order.push(node);
+        self.standings[node] = Standing::Placed;
+        self.move_up(graph, node);
+    }
 
-// Moves every blocker that stands at `at` up, to the lowest node from there on that blocks.
-fn move_up<G: Graph>(graph: &G, placed: &[bool; 256], at: usize, blockers: &mut [usize; 256])
-    requires within { at ≤ G.Graph.size graph.now }
-    requires movable { (v : ℕ) → v < G.Graph.size graph.now → Movable (G.Graph.joins graph.now) (G.Graph.size graph.now) placed.now at v (slice_index blockers.old v) }
-    ensures many { length blockers.new ≡ 256 }
-    ensures blocked { Blocked (G.Graph.joins graph.now) (G.Graph.size graph.now) placed.now blockers.new }
-{
-    for node in 0..graph.nodes() {
-        if blockers[node] == at {
-            blockers[node] = first_blocker(graph, placed, at, node);
+    // Moves every blocker that stands at `at` up, to the lowest node from there on that blocks.
+    fn move_up<G: Graph>(&mut self, graph: &G, at: usize)
+        requires within { at ≤ G.Graph.size graph.now }
+        requires sized { length self.old.standings.items ≡ G.Graph.size graph.now }
+        requires movable { (v : ℕ) → v < G.Graph.size graph.now
+            → Movable (G.Graph.joins graph.now) (G.Graph.size graph.now) (marks self.old.standings.items) at v (slice_index_or self.old.standings.items v Placed) }
+        ensures order { self.new.order ≡ self.old.order }
+        ensures placed { marks self.new.standings.items ≡ marks self.old.standings.items }
+        ensures blocked { Blocked (G.Graph.joins graph.now) (G.Graph.size graph.now) self.new.standings.items }
+    {
+        for node in 0..graph.nodes() {
+            if self.standings[node] == Standing::Behind(at) {
+                self.standings[node] = self.standing_from(graph, at, node);
+            }
         }
     }
+
+    // How a node that is not placed stands, where none below `from` blocks it.
+    fn standing_from<G: Graph>(&self, graph: &G, from: usize, node: usize) -> Standing
+        requires within { from ≤ G.Graph.size graph.now }
+        requires sized { length self.now.standings.items ≡ G.Graph.size graph.now }
+        requires passed { Passed (G.Graph.joins graph.now) (marks self.now.standings.items) node from }
+        ensures unplaced { is_placed result ≡ false }
+        ensures stands { Stands (G.Graph.joins graph.now) (G.Graph.size graph.now) (marks self.now.standings.items) node result }
+    {
+        (from..graph.nodes())
+            .find(|blocker| !self.is_placed(*blocker) && graph.edge(*blocker, node))
+            .map_or(Standing::Ready, |blocker| Standing::Behind(blocker))
+    }
+
+    // Whether the node is placed.
+    fn is_placed(&self, node: usize) -> bool
+        ensures { result ≡ slice_index_or (marks self.now.standings.items) node false }
+    {
+        self.standings.get(node) == Some(&Standing::Placed)
+    }
+
+    // The lowest node that is ready.
+    fn lowest_ready(&self) -> Option<usize>
+        ensures { result ≡ position is_ready self.now.standings.items }
+    {
+        self.standings
+            .iter()
+            .position(|standing| *standing == Standing::Ready)
+    }
+
+    // The lowest node that is not placed.
+    fn lowest_unplaced(&self) -> Option<usize>
+        ensures { result ≡ position (λ x. not (is_placed x)) self.now.standings.items }
+    {
+        self.standings
+            .iter()
+            .position(|standing| *standing != Standing::Placed)
+    }
 }
 
-// The lowest node from `from` on that is not placed and has an edge to `node`, or the number of nodes where there is none.
-fn first_blocker<G: Graph>(graph: &G, placed: &[bool; 256], from: usize, node: usize) -> usize
-    requires within { from ≤ G.Graph.size graph.now }
-    requires passed { Passed (G.Graph.joins graph.now) placed.now node from }
-    ensures { Blocks (G.Graph.joins graph.now) (G.Graph.size graph.now) placed.now node result }
-{
-    let size = graph.nodes();
-    for blocker in from..size {
-        if !placed[blocker] && graph.edge(blocker, node) {
-            return blocker;
+impl Stuck {
+    // The node that the node stands behind.
+    fn blocker(&self, node: usize) -> usize
+        requires { Unplaced self.now.standings.items node }
+        ensures value { result ≡ blocker_of self.now.standings.items node }
+        ensures unplaced { Unplaced self.now.standings.items result }
+    {
+        match self.standings[node] {
+            Standing::Behind(blocker) => blocker,
+            _ => unreachable!(),
         }
     }
-    size
-}
 
-// The lowest node that is not placed and that none blocks.
-fn lowest_ready(sorting: &Sorting) -> Option<usize>
-    requires { sorting.now.size ≤ 256 }
-    ensures { MatchOption result (NoneReady sorting.now) (FirstReady sorting.now) }
-{
-    for node in 0..sorting.size {
-        if !sorting.placed[node] && sorting.blockers[node] == sorting.size {
-            return Some(node);
+    // The first node that the way back from `start` comes to for the second time.
+    fn on_ring(&self, start: usize) -> usize
+        requires { Unplaced self.now.standings.items start }
+        ensures { OnRing self.now.standings.items result }
+    {
+        let mut seen = [false; 256];
+        let mut node = start;
+        while !seen[node] {
+            seen[node] = true;
+            node = self.blocker(node);
         }
+        node
     }
-    None
-}
 
-// The lowest node that is not placed.
-fn lowest_unplaced(sorting: &Sorting) -> Option<usize>
-    requires { sorting.now.size ≤ 256 }
-    ensures { MatchOption result ((v : ℕ) → Unplaced sorting.now v → ⊥) (Unplaced sorting.now) }
-{
-    for left in 0..sorting.size {
-        if !sorting.placed[left] {
-            return Some(left);
+    // The ring that `start` is on, by a walk back until it stands again.
+    fn ring_of(&self, start: usize) -> Round
+        requires { OnRing self.now.standings.items start }
+        ensures { Turn self.now.standings.items result.lowest result.count }
+    {
+        let mut ring = Round {
+            lowest: start,
+            count: 1,
+        };
+        let mut node = self.blocker(start);
+        while node != start {
+            ring.lowest = ring.lowest.min(node);
+            ring.count += 1;
+            node = self.blocker(node);
         }
+        ring
     }
-    None
-}
 
-// The first node that the way back from `start` comes to for the second time.
-fn on_ring(sorting: &Sorting, start: usize) -> usize
-    requires closed { Closed sorting.now }
-    requires unplaced { Unplaced sorting.now start }
-    ensures { OnRing sorting.now result }
-{
-    let mut seen = [false; 256];
-    let mut node = start;
-    while !seen[node] {
-        seen[node] = true;
-        node = sorting.blockers[node];
-    }
-    node
-}
-
-// The ring that `start` is on, by a walk back until it stands again.
-fn ring_of(sorting: &Sorting, start: usize) -> Round
-    requires closed { Closed sorting.now }
-    requires ring { OnRing sorting.now start }
-    ensures { Turn sorting.now result.lowest result.count }
-{
-    let mut ring = Round {
-        lowest: start,
-        count: 1,
-    };
-    let mut node = sorting.blockers[start];
-    while node != start {
-        if node < ring.lowest {
-            ring.lowest = node;
+    // Writes the ring at the front of the list, from its last node, the blocker of the lowest, back to the lowest.
+    fn write_back(&self, ring: Round, list: &mut [usize])
+        requires turn { Turn self.now.standings.items ring.lowest ring.count }
+        requires room { ring.count ≤ length list.old }
+        ensures written { Backward self.now.standings.items ring.lowest ring.count list.new }
+        ensures later { drop ring.count list.new ≡ drop ring.count list.old }
+    {
+        let mut node = ring.lowest;
+        for place in (0..ring.count).rev() {
+            node = self.blocker(node);
+            list[place] = node;
         }
-        ring.count += 1;
-        node = sorting.blockers[node];
-    }
-    ring
-}
-
-// Writes the ring at the front of the list, from its last node, the blocker of the lowest, back to the lowest.
-fn write_back(sorting: &Sorting, ring: Round, list: &mut [usize])
-    requires closed { Closed sorting.now }
-    requires turn { Turn sorting.now ring.lowest ring.count }
-    requires room { ring.count ≤ length list.old }
-    ensures written { Backward sorting.now ring.lowest ring.count list.new }
-    ensures later { drop ring.count list.new ≡ drop ring.count list.old }
-{
-    let mut node = ring.lowest;
-    for place in (0..ring.count).rev() {
-        node = sorting.blockers[node];
-        list[place] = node;
     }
 }

@@ -1,17 +1,18 @@
 use Rattle.std.proofs.Common.{arith}
 use Rattle.graph.proofs.Turning.{writing_none, writing_more}
-use Rattle.graph.proofs.ordering.write_back.Goals as goal
+use Rattle.graph.proofs.ordering.Stuck.write_back.Goals as goal
 
 pub loop-place-init : goal.loop-place-init
 loop-place-init c = writing_none _ _ _ _ c.requires.turn.unplaced
 
-pub bounds-sorting-node : goal.bounds-sorting-node
-bounds-sorting-node c = omega (arith, c.requires.closed.few, c.loop-place.invariant.unplaced.0)
+pub blocker-node-requires : goal.blocker-node-requires
+blocker-node-requires c = c.loop-place.invariant.unplaced
 
 pub loop-place-preserved : goal.loop-place-preserved
 loop-place-preserved c =
-    writing_more _ _ _ _ _ _ _ c.requires.closed c.loop-place.invariant c.loop-place-test.true c.loop-place.auto.place
-    (omega (arith, c.loop-place.auto.list, c.requires.room))
+    rw c.blocker-node.ensures.value
+    (writing_more _ _ _ _ _ _ _ c.args.self.now.closed c.loop-place.invariant c.loop-place-test.true c.loop-place.auto.place
+    (omega (arith, c.loop-place.auto.list, c.requires.room)))
 
 pub returns : goal.returns
 returns c = record {

@@ -1,9 +1,0 @@
-use Rattle.graph.specs.Placing.{missing}
-use Rattle.graph.proofs.Turning.{Walked}
-use Rattle.graph.proofs.ordering.on_ring.Given as goal
-
-abbrev pub invariant-loop-seen : goal.invariant-loop-seen
-invariant-loop-seen l = Walked l.sorting l.start l.seen l.node
-
-abbrev pub decreases-loop-seen : goal.decreases-loop-seen
-decreases-loop-seen l = missing l.sorting.size l.seen
