@@ -5,4 +5,4 @@ use Rattle.buffers.specs.Rows.{stores_of}
 use Rattle.buffers.specs.declared.waiting.Waiting.{Waiting}
 
 abbrev pub lists_in : Waiting → Lists
-lists_in w = map stores_of w.rows.value
+lists_in w = map stores_of w.rows

@@ -31,7 +31,7 @@ impl<D: Discipline + Drop> Plain<D> {
         let waiting = Waiting::new(heap)?;
         Ok(Plain {
             waiting,
-            discipline: D::rules(),
+            discipline: D::default(),
         })
     }
 }
@@ -41,7 +41,7 @@ impl<D: Discipline> StoreBuffer for Plain<D> {
 
     ghost rules = { λ _. D.Discipline.allows };
 
-    ghost good = { λ b. good_in b.waiting.rows.value b.waiting.eight };
+    ghost good = { λ b. good_in b.waiting.rows b.waiting.eight };
 
     ghost lawful = { Prim.search std_rules };
 

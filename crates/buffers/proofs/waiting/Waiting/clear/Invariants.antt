@@ -1,6 +1,10 @@
-use Rattle.std.proofs.Common.{◌≡◌, [], map, length, take, replicate}
+use Rattle.std.proofs.Common.{◌≡◌, ℕ, ◌<◌, [], length, get_or}
 use Rattle.buffers.specs.Rows.{stores_of}
+use Rattle.buffers.specs.declared.row.Row.{Row}
 use Rattle.buffers.proofs.waiting.Waiting.clear.Given as goal
 
 abbrev pub invariant-loop-row : goal.invariant-loop-row
-invariant-loop-row l = (take l.row-index (map stores_of l.row-items) ≡ replicate l.row-index []) × (length l.row-items ≡ 8)
+invariant-loop-row l = record {
+  empty : (t : ℕ) (d : Row) → t < l.row-index → stores_of (get_or l.row-items t d) ≡ [];
+  eight : length l.row-items ≡ 8;
+}
