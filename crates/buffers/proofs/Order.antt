@@ -12,6 +12,7 @@ use Rattle.buffers.specs.Lists.{Lists, list_of, oldest_to, without_oldest}
 use Rattle.buffers.specs.Theorems.{Event, LeaveInOrder, after_event, after_events, answered, puts, takes, values_put, values_taken, values_to, where_taken}
 use Rattle.buffers.specs.declared.store.Store.{Store}
 use Rattle.buffers.proofs.Calls.{length_put, put_in_range}
+use Rattle.buffers.proofs.Rows.{no_list}
 
 -- A put at the end adds its value at the end, where it is to that cell.
 values_push : (c d v : ℕ) (ss : List Store) → values_to c (ss ++ store d v ∷ []) ≡ values_to c ss ++ cond (eqb d c) (v ∷ []) []
@@ -130,13 +131,6 @@ in_order r ls eight t c (takes u d ∷ es) =
     ∙ append_assoc first (values_to c (list_of next t)) (values_put r next t c es)
     ∙ ap (λ l. first ++ l) (in_order r next (length_taken ls u d (take_answer (r.drains ls u d) ls u d) ∙ eight) t c es)
     ∙ sym (append_assoc first (values_taken r next t c es) (values_to c (list_of (after_events r next es) t)))
-
-no_list : (t : ℕ) → list_of no_stores t ≡ []
-no_list t =
-    elim (cases_lt t 8) [
-      | inl within ↦ get_or-replicate 8 t [] [] within
-      | inr past ↦ get_or_past no_stores t [] past
-    ]
 
 -- From the start, where nothing waits, what was put is what was taken and then what still waits.
 pub leave_in_order : LeaveInOrder

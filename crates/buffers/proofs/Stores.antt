@@ -1,5 +1,5 @@
 -- The waiting stores of one thread, as the library's searches find them, and one store more or less.
-use Rattle.std.specs.Prelude.{◌≡◌, ℕ, zero, suc, ◌+◌, ◌^◌, ◌<◌, Bool, true, false, cond, ◌&&◌, ◌||◌, List, [], ◌∷◌, ◌++◌, reverse, length, is_some, Some, None, Option, position, ◌==◌, nat_lt, slice_index_or, refl}
+use Rattle.std.specs.Prelude.{◌≡◌, ℕ, zero, suc, ◌+◌, ◌^◌, ◌<◌, ◌≤◌, Bool, true, false, cond, ◌&&◌, ◌||◌, List, [], ◌∷◌, ◌++◌, reverse, length, is_some, Some, None, Option, position, ◌==◌, nat_lt, slice_index_or, refl}
 use Rattle.std.specs.List.{find, list_any, position_from, remove}
 use Rattle.std.specs.Option.{option_map, option_or}
 use Rattle.std.proofs.Common.{sym, ap, ◌∙◌, arith}
@@ -33,6 +33,14 @@ ranged_without c (s ∷ ss) all = go (and_parts (in_range s) (stores_in_range ss
     go : (in_range s ≡ true) × (stores_in_range ss ≡ true) → (stores_in_range ss ≡ true → stores_in_range (without_oldest c ss) ≡ true) → (b : Bool) → stores_in_range (cond b ss (s ∷ without_oldest c ss)) ≡ true
     go both rest true = both.1
     go both rest false = and_from (in_range s) (stores_in_range (without_oldest c ss)) both.0 (rest both.1)
+
+pub length_without : (c : ℕ) (ss : List Store) → length (without_oldest c ss) ≤ length ss
+length_without c [] = omega arith
+length_without c (s ∷ ss) = go (s.cell == c) (length_without c ss)
+  where
+    go : (b : Bool) → length (without_oldest c ss) ≤ length ss → length (cond b ss (s ∷ without_oldest c ss)) ≤ length (s ∷ ss)
+    go true rest = omega arith
+    go false rest = omega arith
 
 pub else_none : (o : Option ℕ) → else_this o None ≡ o
 else_none None = refl

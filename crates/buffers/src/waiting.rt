@@ -1,5 +1,5 @@
-// The waiting stores of all eight threads.
-ghost use Rattle.std.specs.Prelude.{◌≡◌, length};
+// The waiting stores of all eight threads. What holds of all rows is said here, in the type.
+ghost use Rattle.buffers.specs.Lists.{Good};
 
 use super::limits::THREADS;
 use super::row::Row;
@@ -7,7 +7,7 @@ use super::row::Row;
 #[derive(Drop)]
 pub struct Waiting {
     rows: [Row; THREADS],
-    ghost eight: { length rows ≡ 8 },
+    ghost good: { Good rows },
 }
 
 mod calls;

@@ -1,12 +1,12 @@
-use Rattle.std.proofs.Common.{[], ◌∷◌, ◌++◌, map, set, sym, ap, ◌∙◌, arith}
-use Rattle.std.proofs.lemmas.List.{get_or-map, map-set}
+use Rattle.std.proofs.Common.{◌≡◌, [], ◌∷◌, ◌++◌, set, arith, rules}
 use Rattle.buffers.specs.Calls.{store}
-use Rattle.buffers.specs.Rows.{stores_of}
+use Rattle.std.proofs.lemmas.List.{get_or_default}
+use Rattle.buffers.specs.Lists.{list_of}
+use Rattle.buffers.proofs.Rows.{good_push}
 use Rattle.buffers.proofs.waiting.Waiting.put.Goals as goal
 
-pub returns-clause-lists : goal.returns-clause-lists
-returns-clause-lists c =
+pub invariant_of-self : goal.invariant_of-self
+invariant_of-self c =
     let rows = c.args.self.now.rows in
-    let t = c.args.thread in
-    map-set stores_of rows t c.put.new.self
-    ∙ ap (set (map stores_of rows) t) (c.put.ensures ∙ ap (λ ss. ss ++ store c.args.cell c.args.value ∷ []) (sym (get_or-map stores_of rows t c.index-self-thread.result [] (omega arith))))
+    let list : c.put.new.self ≡ list_of rows c.args.thread ++ store c.args.cell c.args.value ∷ [] = search (rules, get_or_default) in
+    record { good = rw list (good_push rows c.args.thread c.args.cell c.args.value c.args.self.now.good (omega (arith, c.count.ensures)) (omega arith) (omega arith)) }

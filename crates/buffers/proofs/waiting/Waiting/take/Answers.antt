@@ -1,12 +1,11 @@
-use Rattle.std.proofs.Common.{[], map, set, sym, ap, ◌∙◌, arith}
-use Rattle.std.proofs.lemmas.List.{get_or-map, map-set}
-use Rattle.buffers.specs.Lists.{without_oldest}
-use Rattle.buffers.specs.Rows.{stores_of}
+use Rattle.std.proofs.Common.{◌≡◌, rules}
+use Rattle.std.proofs.lemmas.List.{get_or_default}
+use Rattle.buffers.specs.Lists.{list_of, without_oldest}
+use Rattle.buffers.proofs.Rows.{good_without}
 use Rattle.buffers.proofs.waiting.Waiting.take.Goals as goal
 
-pub returns-clause-lists : goal.returns-clause-lists
-returns-clause-lists c =
+pub invariant_of-self : goal.invariant_of-self
+invariant_of-self c =
     let rows = c.args.self.now.rows in
-    let t = c.args.thread in
-    map-set stores_of rows t c.take.new.self
-    ∙ ap (set (map stores_of rows) t) (c.take.ensures.stores ∙ ap (without_oldest c.args.cell) (sym (get_or-map stores_of rows t c.index-self-thread.result [] (omega arith))))
+    let list : c.take.new.self ≡ without_oldest c.args.cell (list_of rows c.args.thread) = search (rules, get_or_default) in
+    record { good = rw list (good_without rows c.args.thread c.args.cell c.args.self.now.good) }
