@@ -19,7 +19,7 @@ pub put_in_range : (ls : Lists) (u d : ℕ) (done : Unit {0}) → put_answer ls 
 put_in_range ls u d done taken = go (leb 8 u) refl taken
   where
     go : (b : Bool) → leb 8 u ≡ b → cond b (Err ThreadOutOfRange) (cond (leb 16 d) (Err CellOutOfRange) (cond (leb 16 (length (list_of ls u))) (Err BufferFull) (Ok tt))) ≡ Ok done → u < 8
-    go true out e = let z : ◌≡◌ {A = ℕ} 0 1 = cc in absurd (omega (arith, z))
+    go true out e = cc
     go false within e = leb-false 8 u within
 
 -- A put does not change how many lists there are.

@@ -1,12 +1,12 @@
 -- Whether a store waits for one of the chosen cells, asked cell by cell.
-use Rattle.std.specs.Prelude.{◌≡◌, ℕ, ◌<◌, Bool, true, false, cond, ◌&&◌, ◌||◌, List, [], ◌∷◌, get_or, length, is_some, Some, None, Option, ◌==◌, ◌≢◌, slice_index_or, refl}
+use Rattle.std.specs.Prelude.{◌≡◌, ℕ, ◌<◌, Bool, true, false, cond, ◌&&◌, ◌||◌, List, [], ◌∷◌, get_or, length, is_some, Some, None, Option, ◌==◌, slice_index_or, refl}
 use Rattle.std.specs.List.{enumerate_from, list_any}
 use Rattle.std.proofs.Common.{sym, ap, ◌∙◌, arith, inl, inr, zero-add}
 use Rattle.std.proofs.lemmas.List.{get_or_default, get_or_past}
 use Rattle.std.proofs.lemmas.List.Folds.{Any-from_list_any, list_any_at}
 use Rattle.std.proofs.lemmas.List.FromFn.{get_or-enumerate_from, length-enumerate_from}
 use Rattle.std.proofs.lemmas.List.Recursion.{or_from_places}
-use Rattle.std.proofs.lemmas.Bool.{and_parts, and_from, both_ways, cases_lt, eq-eqb, eqb-true, or_left, or_right, true≢false}
+use Rattle.std.proofs.lemmas.Bool.{and_parts, and_from, both_ways, cases_lt, eq-eqb, eqb-true, false_from_ne_true, or_left, or_right, true≢false}
 use Rattle.buffers.specs.Calls.{store}
 use Rattle.buffers.specs.Kinds.{has_chosen}
 use Rattle.buffers.specs.Lists.{else_this, newest_to, oldest_to, waits_to}
@@ -35,10 +35,6 @@ chosen_found chosen c (s ∷ ss) strong waits = go (s.cell == c) refl waits (cho
     go true here w later = or_left (slice_index_or chosen s.cell false) (has_chosen chosen ss) (ap (λ k. get_or chosen k false) (eqb-true s.cell c here) ∙ strong)
     go false other w later = or_right (slice_index_or chosen s.cell false) (has_chosen chosen ss) (later w)
 
-not_so : (b : Bool) → (b ≢ true) → b ≡ false
-not_so true never = absurd (never refl)
-not_so false never = refl
-
 -- Where no store waits for a chosen cell, none is to one.
 chosen_none : (chosen : List Bool) (ss : List Store) → ((c : ℕ) → slice_index_or chosen c false ≡ true → waits_to c ss ≡ false) → has_chosen chosen ss ≡ false
 chosen_none chosen ss none = or_from_places (has_chosen chosen) (λ s. slice_index_or chosen s.cell false) refl (λ _ _. refl) ss (store 0 0) at
@@ -46,7 +42,7 @@ chosen_none chosen ss none = or_from_places (has_chosen chosen) (λ s. slice_ind
     at : (i : ℕ) → i < length ss → slice_index_or chosen (slice_index_or ss i (store 0 0)).cell false ≡ false
     at i within =
         let c = (slice_index_or ss i (store 0 0)).cell in
-        not_so (slice_index_or chosen c false) (λ strong. both_ways (waits_to c ss) (none c strong) (sym (waits_any c ss) ∙ list_any_at (to c) ss i (store 0 0) within (eq-eqb c c refl)))
+        false_from_ne_true (slice_index_or chosen c false) (λ strong. both_ways (waits_to c ss) (none c strong) (sym (waits_any c ss) ∙ list_any_at (to c) ss i (store 0 0) within (eq-eqb c c refl)))
 
 -- whether a cell is chosen and a store waits for it
 abbrev pub asked : List Store → ℕ × Bool → Bool
@@ -69,7 +65,7 @@ chosen_asked chosen ss = go (list_any (asked ss) (enumerate_from 0 chosen)) refl
         let both = and_parts p.1 (is_some (newest_to p.0 ss)) hit.4 in
         let strong : slice_index_or chosen k false ≡ true = get_or_default chosen k false p.1 within ∙ ap (λ q. q.1) is ∙ both.0 in
         sym (chosen_found chosen p.0 ss (ap (λ i. slice_index_or chosen i false) (sym (ap (λ q. q.0) is)) ∙ strong) (sym (newest_waits p.0 ss) ∙ both.1))
-    go false none = sym (chosen_none chosen ss (λ c strong. not_so (waits_to c ss) (λ waits. both_ways (list_any (asked ss) (enumerate_from 0 chosen)) none (at c strong waits))))
+    go false none = sym (chosen_none chosen ss (λ c strong. false_from_ne_true (waits_to c ss) (λ waits. both_ways (list_any (asked ss) (enumerate_from 0 chosen)) none (at c strong waits))))
       where
         at : (c : ℕ) → slice_index_or chosen c false ≡ true → waits_to c ss ≡ true → list_any (asked ss) (enumerate_from 0 chosen) ≡ true
         at c strong waits =

@@ -36,7 +36,7 @@ kept_front false there v w vs rest apart e = e
 
 -- The oldest store to the cell d brings the first of the values to d, and none of those to another cell.
 values_without : (c d v : ℕ) (ss : List Store) → oldest_to d ss ≡ Some v → values_to c ss ≡ cond (eqb d c) (v ∷ []) [] ++ values_to c (without_oldest d ss)
-values_without c d v [] found = let z : ◌≡◌ {A = ℕ} 0 1 = cc in absurd (omega (arith, z))
+values_without c d v [] found = cc
 values_without c d v (s ∷ ss) found = go (eqb s.cell d) refl found (values_without c d v ss)
   where
     go : (b : Bool) → eqb s.cell d ≡ b → cond b (Some s.value) (oldest_to d ss) ≡ Some v → (oldest_to d ss ≡ Some v → values_to c ss ≡ cond (eqb d c) (v ∷ []) [] ++ values_to c (without_oldest d ss)) → values_to c (s ∷ ss) ≡ cond (eqb d c) (v ∷ []) [] ++ values_to c (cond b ss (s ∷ without_oldest d ss))
@@ -56,8 +56,8 @@ take_found free ls u d v taken = go free (oldest_to d (list_of ls u)) taken
   where
     go : (b : Bool) (o : Option ℕ) → cond b (ok_or o DrainNotFree) (Err DrainNotFree) ≡ Ok v → o ≡ Some v
     go true (Some w) e = let same : w ≡ v = cc in ap Some same
-    go true None e = let z : ◌≡◌ {A = ℕ} 0 1 = cc in absurd (omega (arith, z))
-    go false o e = let z : ◌≡◌ {A = ℕ} 0 1 = cc in absurd (omega (arith, z))
+    go true None e = cc
+    go false o e = cc
 
 -- A take leaves the thread's own list without that store, also where there is no such thread.
 list_without : (ls : Lists) (t d : ℕ) → list_of (set ls t (without_oldest d (list_of ls t))) t ≡ without_oldest d (list_of ls t)

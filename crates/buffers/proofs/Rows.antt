@@ -1,8 +1,7 @@
 -- Eight short lists in range stay so where one of them is changed, and where none holds a store.
-use Rattle.std.specs.Prelude.{◌≡◌, ℕ, zero, suc, ◌^◌, ◌<◌, ◌≤◌, true, List, [], ◌∷◌, ◌++◌, length, set, refl}
-use Rattle.std.proofs.Common.{arith, sym, ap, ◌∙◌, subst, inl, inr, length-append}
-use Rattle.std.proofs.lemmas.List.{ext_get_or, get_or-replicate, get_or_past, length-set}
-use Rattle.std.proofs.lemmas.Bool.{cases_lt}
+use Rattle.std.specs.Prelude.{◌≡◌, ℕ, zero, suc, ◌^◌, ◌<◌, ◌≤◌, true, List, [], ◌∷◌, ◌++◌, get_or, length, replicate, set, refl}
+use Rattle.std.proofs.Common.{arith, sym, ap, ◌∙◌, subst, length-append}
+use Rattle.std.proofs.lemmas.List.{ext_get_or, length-set}
 use Rattle.buffers.specs.Calls.{no_stores, store}
 use Rattle.buffers.specs.Lists.{Good, Lists, list_of, stores_in_range, without_oldest}
 use Rattle.buffers.specs.declared.store.Store.{Store}
@@ -31,12 +30,14 @@ good_push ls t c v good room cell value = good_set ls t (list_of ls t ++ store c
 pub good_without : (ls : Lists) (t c : ℕ) → Good ls → Good (set ls t (without_oldest c (list_of ls t)))
 good_without ls t c good = good_set ls t (without_oldest c (list_of ls t)) good (omega (arith, length_without c (list_of ls t), good.few t)) (ranged_without c (list_of ls t) (good.ranged t))
 
+-- A list of one value holds it at every place, where it is also what stands past the end.
+pub at_replicate : {A : Type 0} (n i : ℕ) (a : A) → get_or (replicate n a) i a ≡ a
+at_replicate zero i a = refl
+at_replicate (suc n) zero a = refl
+at_replicate (suc n) (suc i) a = at_replicate n i a
+
 pub no_list : (t : ℕ) → list_of no_stores t ≡ []
-no_list t =
-    elim (cases_lt t 8) [
-      | inl within ↦ get_or-replicate 8 t [] [] within
-      | inr past ↦ get_or_past no_stores t [] past
-    ]
+no_list t = at_replicate 8 t []
 
 -- Where each of eight lists is empty, nothing waits.
 pub none_wait : (ls : Lists) → length ls ≡ 8 → ((t : ℕ) → t < 8 → list_of ls t ≡ []) → ls ≡ no_stores

@@ -88,7 +88,7 @@ unplaced_from c i [] none = (refl, refl)
 unplaced_from c i (s ∷ ss) none = go (to c s) none (unplaced_from c (i + 1) ss)
   where
     go : (b : Bool) → cond b (Some i) (position_from (to c) (i + 1) ss) ≡ None → (position_from (to c) (i + 1) ss ≡ None → (oldest_to c ss ≡ None) × (without_oldest c ss ≡ ss)) → (cond b (Some s.value) (oldest_to c ss) ≡ None) × (cond b ss (s ∷ without_oldest c ss) ≡ s ∷ ss)
-    go true e later = absurd (cc)
+    go true e later = cc
     go false e later = ((later e).0, ap (λ l. s ∷ l) (later e).1)
 
 pub unplaced : (c : ℕ) (ss : List Store) → position (to c) ss ≡ None → (oldest_to c ss ≡ None) × (without_oldest c ss ≡ ss)
