@@ -1,5 +1,5 @@
 -- What a put and a take answer, test by test.
-use Rattle.std.proofs.Common.{◌≡◌, ℕ, ◌<◌, Bool, true, false, cond, leb, [], ◌∷◌, ◌++◌, length, Ok, Err, Result, refl, ◌∙◌, arith}
+use Rattle.std.proofs.Common.{◌≡◌, ℕ, ◌<◌, Bool, true, false, cond, leb, [], ◌∷◌, ◌++◌, length, Ok, Err, Result, refl, ◌∙◌}
 use Rattle.std.proofs.lemmas.List.{length-set}
 use Rattle.std.proofs.lemmas.Bool.{cond-false, leb-false, lt-leb}
 use Rattle.refusal.specs.declared.Refusal.{Refusal}

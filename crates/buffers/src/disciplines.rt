@@ -11,7 +11,7 @@ use super::waiting::Waiting;
 pub trait Discipline: Default {
     ghost allows: { Rules };
 
-    // Whether the thread is free to step.
+    // Whether the thread is free to step. Two kinds ask the same, each for itself: a body given here would have to keep any rules.
     fn steps(&self, waiting: &Waiting, thread: usize) -> bool
         ensures { result ≡ allows.steps (lists_in waiting.now) thread };
 

@@ -49,6 +49,7 @@ impl Waiting {
         ensures value { result ≡ oldest_to cell (list_of (lists_in self.old) thread) }
         ensures lists { lists_in self.new ≡ slice_set (lists_in self.old) thread (without_oldest cell (list_of (lists_in self.old) thread)) }
     {
+        // By index: after `get_mut` of an array a proof knows none of its rows.
         if thread >= THREADS {
             return None;
         }

@@ -1,6 +1,6 @@
-use Rattle.std.proofs.Common.{◌≡◌, [], ◌∷◌, ◌++◌, set, arith, rules}
-use Rattle.buffers.specs.Calls.{store}
+use Rattle.std.proofs.Common.{◌≡◌, [], ◌∷◌, ◌++◌, arith, rules}
 use Rattle.std.proofs.lemmas.List.{get_or_default}
+use Rattle.buffers.specs.Calls.{store}
 use Rattle.buffers.specs.Lists.{list_of}
 use Rattle.buffers.proofs.Rows.{good_push}
 use Rattle.buffers.proofs.waiting.Waiting.put.Goals as goal
