@@ -1,5 +1,5 @@
 -- What a put and a take answer, test by test.
-use Rattle.std.proofs.Common.{◌≡◌, ℕ, ◌<◌, Bool, true, false, cond, leb, [], ◌∷◌, ◌++◌, length, Ok, Err, Result, refl, ◌∙◌, arith}
+use Rattle.std.proofs.Common.{◌≡◌, ℕ, ◌<◌, Bool, true, false, cond, leb, [], ◌∷◌, ◌++◌, length, Ok, Err, Result, refl, ◌∙◌}
 use Rattle.std.proofs.lemmas.List.{length-set}
 use Rattle.std.proofs.lemmas.Bool.{cond-false, leb-false, lt-leb}
 use Rattle.refusal.specs.declared.Refusal.{Refusal}
@@ -19,7 +19,7 @@ pub put_in_range : (ls : Lists) (u d : ℕ) (done : Unit {0}) → put_answer ls 
 put_in_range ls u d done taken = go (leb 8 u) refl taken
   where
     go : (b : Bool) → leb 8 u ≡ b → cond b (Err ThreadOutOfRange) (cond (leb 16 d) (Err CellOutOfRange) (cond (leb 16 (length (list_of ls u))) (Err BufferFull) (Ok tt))) ≡ Ok done → u < 8
-    go true out e = let z : ◌≡◌ {A = ℕ} 0 1 = cc in absurd (omega (arith, z))
+    go true out e = cc
     go false within e = leb-false 8 u within
 
 -- A put does not change how many lists there are.

@@ -3,5 +3,5 @@ pub mod Chosen
 pub mod Oldest
 pub mod Order
 pub mod Puts
-pub mod Rowed
+pub mod Rows
 pub mod Stores

@@ -1,12 +1,14 @@
 -- Which store a free drain takes, and that strong cells with nothing chosen change nothing.
-use Rattle.std.proofs.Common.{◌≡◌, ℕ, zero, suc, Bool, true, false, cond, not, ◌&&◌, eqb, List, [], ◌∷◌, ◌++◌, get_or, replicate, is_some, Some, sym, refl, ap, ◌∙◌}
+use Rattle.std.proofs.Common.{◌≡◌, ℕ, Bool, true, false, cond, not, ◌&&◌, eqb, List, [], ◌∷◌, ◌++◌, get_or, replicate, is_some, Some, sym, refl, ap, ◌∙◌}
 use Rattle.std.specs.Option.{ok_or}
+use Rattle.std.proofs.Math.Bool.{and-true}
 use Rattle.std.proofs.lemmas.Bool.{eqb-true, or_from, true≢false}
 use Rattle.refusal.specs.declared.Refusal.TheVariants.{DrainNotFree}
 use Rattle.buffers.specs.Kinds.{has_chosen, oldest_is_to}
 use Rattle.buffers.specs.Lists.{Lists, list_of, oldest_to, waits_to, without_oldest}
 use Rattle.buffers.specs.Theorems.{NothingChosen, OldestTaken, OnlyOldestLeaves, TakesOldest}
 use Rattle.buffers.specs.declared.store.Store.{Store}
+use Rattle.buffers.proofs.Rows.{at_replicate}
 
 -- The oldest store to the cell c among the stores ss: where it stands, and what is left without it.
 record Oldest (c : ℕ) (ss : List Store) : Type 0 where
@@ -80,20 +82,11 @@ only_oldest_leaves ls t c free =
     let first = oldest_of_all c (list_of ls t) free in
     (taken_from ls t c first.0, first.1)
 
--- No cell is among those chosen, if none was.
-none_chosen_at : (n c : ℕ) → get_or (replicate n false) c false ≡ false
-none_chosen_at zero c = refl
-none_chosen_at (suc n) zero = refl
-none_chosen_at (suc n) (suc c) = none_chosen_at n c
-
+-- No store is to a chosen cell, if none was chosen.
 none_chosen : (ss : List Store) → has_chosen (replicate 16 false) ss ≡ false
 none_chosen [] = refl
-none_chosen (s ∷ ss) = or_from (get_or (replicate 16 false) s.cell false) (has_chosen (replicate 16 false) ss) (none_chosen_at 16 s.cell) (none_chosen ss)
-
-and_true : (b : Bool) → (b && true) ≡ b
-and_true true = refl
-and_true false = refl
+none_chosen (s ∷ ss) = or_from (get_or (replicate 16 false) s.cell false) (has_chosen (replicate 16 false) ss) (at_replicate 16 s.cell false) (none_chosen ss)
 
 -- So a step is free as below, and a drain is free as below in any case.
 pub nothing_chosen : NothingChosen
-nothing_chosen r ls t = (ap (λ b. r.steps ls t && not b) (none_chosen (list_of ls t)) ∙ and_true (r.steps ls t), λ c. refl)
+nothing_chosen r ls t = (ap (λ b. r.steps ls t && not b) (none_chosen (list_of ls t)) ∙ and-true (r.steps ls t), λ c. refl)

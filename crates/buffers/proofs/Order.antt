@@ -2,7 +2,7 @@
 -- taken and what waits in the end, event by event.
 use Rattle.std.proofs.Common.{◌≡◌, ℕ, ◌<◌, Bool, true, false, cond, ◌&&◌, eqb, List, [], ◌∷◌, ◌++◌, length, set, Some, None, Ok, Err, Option, Result, sym, refl, ap, ◌∙◌, inl, inr, append_assoc, append-nil, arith}
 use Rattle.std.specs.Option.{ok_or}
-use Rattle.std.proofs.lemmas.List.{get_or_past, get_or-replicate, get_or-set_other, get_or-set_same, length-set, set_past}
+use Rattle.std.proofs.lemmas.List.{get_or_past, get_or-set_other, get_or-set_same, length-set, set_past}
 use Rattle.std.proofs.lemmas.Bool.{cases_lt, eqb-false, eqb-true}
 use Rattle.refusal.specs.declared.Refusal.{Refusal}
 use Rattle.refusal.specs.declared.Refusal.TheVariants.{DrainNotFree}
@@ -12,6 +12,7 @@ use Rattle.buffers.specs.Lists.{Lists, list_of, oldest_to, without_oldest}
 use Rattle.buffers.specs.Theorems.{Event, LeaveInOrder, after_event, after_events, answered, puts, takes, values_put, values_taken, values_to, where_taken}
 use Rattle.buffers.specs.declared.store.Store.{Store}
 use Rattle.buffers.proofs.Calls.{length_put, put_in_range}
+use Rattle.buffers.proofs.Rows.{no_list}
 
 -- A put at the end adds its value at the end, where it is to that cell.
 values_push : (c d v : ℕ) (ss : List Store) → values_to c (ss ++ store d v ∷ []) ≡ values_to c ss ++ cond (eqb d c) (v ∷ []) []
@@ -35,7 +36,7 @@ kept_front false there v w vs rest apart e = e
 
 -- The oldest store to the cell d brings the first of the values to d, and none of those to another cell.
 values_without : (c d v : ℕ) (ss : List Store) → oldest_to d ss ≡ Some v → values_to c ss ≡ cond (eqb d c) (v ∷ []) [] ++ values_to c (without_oldest d ss)
-values_without c d v [] found = let z : ◌≡◌ {A = ℕ} 0 1 = cc in absurd (omega (arith, z))
+values_without c d v [] found = cc
 values_without c d v (s ∷ ss) found = go (eqb s.cell d) refl found (values_without c d v ss)
   where
     go : (b : Bool) → eqb s.cell d ≡ b → cond b (Some s.value) (oldest_to d ss) ≡ Some v → (oldest_to d ss ≡ Some v → values_to c ss ≡ cond (eqb d c) (v ∷ []) [] ++ values_to c (without_oldest d ss)) → values_to c (s ∷ ss) ≡ cond (eqb d c) (v ∷ []) [] ++ values_to c (cond b ss (s ∷ without_oldest d ss))
@@ -55,8 +56,8 @@ take_found free ls u d v taken = go free (oldest_to d (list_of ls u)) taken
   where
     go : (b : Bool) (o : Option ℕ) → cond b (ok_or o DrainNotFree) (Err DrainNotFree) ≡ Ok v → o ≡ Some v
     go true (Some w) e = let same : w ≡ v = cc in ap Some same
-    go true None e = let z : ◌≡◌ {A = ℕ} 0 1 = cc in absurd (omega (arith, z))
-    go false o e = let z : ◌≡◌ {A = ℕ} 0 1 = cc in absurd (omega (arith, z))
+    go true None e = cc
+    go false o e = cc
 
 -- A take leaves the thread's own list without that store, also where there is no such thread.
 list_without : (ls : Lists) (t d : ℕ) → list_of (set ls t (without_oldest d (list_of ls t))) t ≡ without_oldest d (list_of ls t)
@@ -130,13 +131,6 @@ in_order r ls eight t c (takes u d ∷ es) =
     ∙ append_assoc first (values_to c (list_of next t)) (values_put r next t c es)
     ∙ ap (λ l. first ++ l) (in_order r next (length_taken ls u d (take_answer (r.drains ls u d) ls u d) ∙ eight) t c es)
     ∙ sym (append_assoc first (values_taken r next t c es) (values_to c (list_of (after_events r next es) t)))
-
-no_list : (t : ℕ) → list_of no_stores t ≡ []
-no_list t =
-    elim (cases_lt t 8) [
-      | inl within ↦ get_or-replicate 8 t [] [] within
-      | inr past ↦ get_or_past no_stores t [] past
-    ]
 
 -- From the start, where nothing waits, what was put is what was taken and then what still waits.
 pub leave_in_order : LeaveInOrder

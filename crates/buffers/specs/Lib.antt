@@ -3,6 +3,5 @@ pub mod KindLaws
 pub mod Kinds
 pub mod Laws
 pub mod Lists
-pub mod Rows
 pub mod Theorems
 pub mod Waits

@@ -1,8 +1,6 @@
 -- lists_in w    the waiting lists of all threads, as the plain kinds hold them
-use Rattle.std.specs.Prelude.{map}
 use Rattle.buffers.specs.Lists.{Lists}
-use Rattle.buffers.specs.Rows.{stores_of}
 use Rattle.buffers.specs.declared.waiting.Waiting.{Waiting}
 
 abbrev pub lists_in : Waiting → Lists
-lists_in w = map stores_of w.rows.value
+lists_in w = w.rows

@@ -5,15 +5,13 @@ ghost use Rattle.buffers.specs.Laws.{Lawful, Rules};
 ghost use Rattle.buffers.specs.Waits.{lists_in};
 ghost use Rattle.std.proofs.Common.{rules};
 
+use super::limits::THREADS;
 use super::waiting::Waiting;
 
-pub trait Discipline: Sized {
+pub trait Discipline: Default {
     ghost allows: { Rules };
 
-    // The rules, which hold no data.
-    fn rules() -> Self;
-
-    // Whether the thread is free to step.
+    // Whether the thread is free to step. Two kinds ask the same, each for itself: a body given here would have to keep any rules.
     fn steps(&self, waiting: &Waiting, thread: usize) -> bool
         ensures { result ≡ allows.steps (lists_in waiting.now) thread };
 
@@ -25,15 +23,15 @@ pub trait Discipline: Sized {
 }
 
 // A thread may step once nothing waits in any thread; any waiting store may drain.
-#[derive(Clone, Copy)]
+#[derive(Clone, Copy, Default)]
 pub struct DirectRules;
 
 // Any thread may step; a thread's oldest store may drain.
-#[derive(Clone, Copy)]
+#[derive(Clone, Copy, Default)]
 pub struct QueueRules;
 
 // Any thread may step; the oldest store to any cell may drain.
-#[derive(Clone, Copy)]
+#[derive(Clone, Copy, Default)]
 pub struct PerCellRules;
 
 impl Discipline for DirectRules {
@@ -41,12 +39,8 @@ impl Discipline for DirectRules {
 
     ghost lawful = { Prim.search rules };
 
-    fn rules() -> DirectRules {
-        DirectRules
-    }
-
     fn steps(&self, waiting: &Waiting, thread: usize) -> bool {
-        thread < 8 && waiting.is_empty()
+        thread < THREADS && waiting.is_empty()
     }
 
     fn drains(&self, waiting: &Waiting, thread: usize, cell: usize) -> bool {
@@ -60,12 +54,8 @@ impl Discipline for QueueRules {
 
     ghost lawful = { Prim.search rules };
 
-    fn rules() -> QueueRules {
-        QueueRules
-    }
-
     fn steps(&self, _waiting: &Waiting, thread: usize) -> bool {
-        thread < 8
+        thread < THREADS
     }
 
     fn drains(&self, waiting: &Waiting, thread: usize, cell: usize) -> bool {
@@ -78,12 +68,8 @@ impl Discipline for PerCellRules {
 
     ghost lawful = { Prim.search rules };
 
-    fn rules() -> PerCellRules {
-        PerCellRules
-    }
-
     fn steps(&self, _waiting: &Waiting, thread: usize) -> bool {
-        thread < 8
+        thread < THREADS
     }
 
     fn drains(&self, waiting: &Waiting, thread: usize, cell: usize) -> bool {

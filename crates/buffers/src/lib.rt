@@ -2,7 +2,7 @@
 #![tactic(auto)]
 
 mod disciplines;
-mod held;
+mod limits;
 mod meaning;
 mod plain;
 mod row;

@@ -1,5 +1,6 @@
 // What a store buffer means, whatever its kind: eight lists of waiting stores, and rules that say what they let happen.
 // Code above is proved from this alone, so it holds over every kind that shows it.
+// A thread and a cell are handed over side by side, since each call takes them apart: the thread is looked at first, and then the cell.
 ghost use Rattle.std.specs.Prelude.{◌≡◌, length};
 ghost use Rattle.buffers.specs.Calls.{no_stores, put_answer, put_lists, take_answer, take_lists};
 ghost use Rattle.buffers.specs.Laws.{Lawful, Rules};

@@ -2,7 +2,6 @@
 ghost use Rattle.std.specs.Prelude.{◌≡◌, IfOk};
 ghost use Rattle.buffers.specs.Calls.{no_stores};
 ghost use Rattle.buffers.specs.Waits.{lists_in};
-ghost use Rattle.buffers.specs.KindLaws.{good_in};
 ghost use Rattle.std.proofs.Common.{rules as std_rules};
 
 use super::disciplines::{DirectRules, Discipline, PerCellRules, QueueRules};
@@ -31,7 +30,7 @@ impl<D: Discipline + Drop> Plain<D> {
         let waiting = Waiting::new(heap)?;
         Ok(Plain {
             waiting,
-            discipline: D::rules(),
+            discipline: D::default(),
         })
     }
 }
@@ -41,7 +40,7 @@ impl<D: Discipline> StoreBuffer for Plain<D> {
 
     ghost rules = { λ _. D.Discipline.allows };
 
-    ghost good = { λ b. good_in b.waiting.rows.value b.waiting.eight };
+    ghost good = { λ b. b.waiting.good };
 
     ghost lawful = { Prim.search std_rules };
 

@@ -1,17 +1,22 @@
-// The waiting stores of one thread. What holds of every such row is said here, in the type.
-ghost use Rattle.std.specs.Prelude.{◌≡◌, ◌≤◌, true, vec_len, vec_capacity};
-ghost use Rattle.buffers.specs.Lists.{stores_in_range};
+// The waiting stores of one thread. A contract sees a row as the list of its stores, oldest first.
+ghost use Rattle.std.specs.Prelude.{◌≤◌, List, vec_capacity};
+ghost use Rattle.buffers.specs.declared.store.Store.{Store};
 
 use super::store::Store;
+use std::marker::Model;
 
 #[derive(Drop)]
 pub struct Row {
-    // oldest first
     stores: Vec<Store>,
-    // room for every store was had when the row was made
-    ghost room: { 16 ≤ vec_capacity stores },
-    ghost few: { vec_len stores ≤ 16 },
-    ghost ranged: { stores_in_range stores.items ≡ true },
+}
+
+impl Model for Row {
+    ghost Value = { List Store };
+
+    ghost view = { λ row. row.stores.items };
+
+    // Room for every store was had when the row was made.
+    ghost invariant = { λ row. 16 ≤ vec_capacity row.stores };
 }
 
 mod calls;

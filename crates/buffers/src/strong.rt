@@ -5,21 +5,20 @@ ghost use Rattle.buffers.specs.Lists.{list_of};
 ghost use Rattle.buffers.specs.KindLaws.{strong_lawful};
 ghost use Rattle.std.proofs.Common.{rules as std_rules};
 
+use super::limits::CELLS;
 use super::meaning::StoreBuffer;
 use refusal::Refusal;
-
-const CELLS: usize = 16;
 
 #[derive(Drop)]
 pub struct StrongCells<B> {
     below: B,
     // which of the sixteen cells are strong
-    chosen: [bool; 16],
+    chosen: [bool; CELLS],
 }
 
 impl<B: StoreBuffer> StrongCells<B> {
     // Lays the chosen cells over a kind. What waits there goes on waiting.
-    pub fn new(below: B, chosen: [bool; 16]) -> StrongCells<B>
+    pub fn new(below: B, chosen: [bool; CELLS]) -> StrongCells<B>
         ensures below { result.below ≡ below }
         ensures chosen { result.chosen ≡ chosen }
     {
@@ -30,12 +29,8 @@ impl<B: StoreBuffer> StrongCells<B> {
     fn strong_waits(&self, thread: usize) -> bool
         ensures { result ≡ has_chosen self.now.chosen (list_of (B.StoreBuffer.lists self.now.below) thread) }
     {
-        for cell in 0..CELLS {
-            if self.chosen[cell] && self.below.newest(thread, cell).is_some() {
-                return true;
-            }
-        }
-        false
+        let mut cells = self.chosen.iter().enumerate();
+        cells.any(|(cell, chosen)| *chosen && self.below.newest(thread, cell).is_some())
     }
 }
 

@@ -6,6 +6,7 @@ ghost use Rattle.buffers.specs.Theorems.{after_events, puts};
 
 use super::*;
 use refusal::Refusal;
+use std::array;
 use std::process::Abort;
 use std::test::Fail;
 
@@ -39,11 +40,7 @@ fn first_of_two<B: StoreBuffer>(
 
 // The sixteen cells with one chosen.
 fn only(cell: usize) -> [bool; 16] {
-    let mut chosen = [false; 16];
-    if cell < 16 {
-        chosen[cell] = true;
-    }
-    chosen
+    array::from_fn(|c| c == cell)
 }
 
 // Stores are read back and leave in order, and a clear leaves none.

@@ -1,13 +1,13 @@
-// The waiting stores of all eight threads.
-ghost use Rattle.std.specs.Prelude.{◌≡◌, length};
+// The waiting stores of all eight threads. What holds of all rows is said here, in the type.
+ghost use Rattle.buffers.specs.Lists.{Good};
 
-use super::held::Held;
+use super::limits::THREADS;
 use super::row::Row;
 
 #[derive(Drop)]
 pub struct Waiting {
-    rows: Held<[Row; 8]>,
-    ghost eight: { length rows.value ≡ 8 },
+    rows: [Row; THREADS],
+    ghost good: { Good rows },
 }
 
 mod calls;

@@ -1,21 +1,18 @@
 // What is done with the waiting stores of one thread.
-ghost use Rattle.std.specs.Prelude.{◌≡◌, ◌<◌, cond, [], ◌∷◌, ◌++◌, length, IfOk};
+ghost use Rattle.std.specs.Prelude.{◌≡◌, ◌<◌, ◌==◌, [], ◌∷◌, ◌++◌, length, IfOk, position};
 ghost use Rattle.buffers.specs.Calls.{store};
 ghost use Rattle.buffers.specs.Kinds.{oldest_is_to};
-ghost use Rattle.buffers.specs.Lists.{newest_to, oldest_to, waits_to, without_oldest};
-ghost use Rattle.buffers.specs.Rows.{place_of, stores_of};
+ghost use Rattle.buffers.specs.Lists.{newest_to, none_of, oldest_to, waits_to, without_oldest};
 
+use super::super::limits::MOST;
 use super::super::store::Store;
 use super::Row;
 use std::alloc::{AllocError, Global};
 
-// the most stores that wait in one row
-const MOST: usize = 16;
-
 impl Row {
     // No store waits. This is where memory may fail.
     pub(crate) fn new(heap: Global) -> Result<Row, AllocError>
-        ensures { IfOk result (λ row. stores_of row ≡ []) }
+        ensures { IfOk result (λ row. row ≡ []) }
     {
         let stores = Vec::with_capacity(heap, MOST)?;
         Ok(Row { stores })
@@ -23,66 +20,61 @@ impl Row {
 
     // How many stores wait.
     pub(crate) fn len(&self) -> usize
-        ensures { result ≡ length (stores_of self.now) }
+        ensures { result ≡ length self.now }
     {
         self.stores.len()
     }
 
+    pub(crate) fn is_empty(&self) -> bool
+        ensures { result ≡ none_of self.now }
+    {
+        self.stores.is_empty()
+    }
+
     // Puts a store at the end.
     pub(crate) fn put(&mut self, cell: usize, value: u32)
-        requires in_range { cell < 16 }
-        requires room { length (stores_of self.old) < 16 }
-        ensures { stores_of self.new ≡ stores_of self.old ++ store cell value ∷ [] }
+        requires { length self.old < 16 }
+        ensures { self.new ≡ self.old ++ store cell value ∷ [] }
     {
         self.stores.push_reserved(Store { cell, value });
     }
 
     // The value of the youngest store to a cell.
     pub(crate) fn newest(&self, cell: usize) -> Option<u32>
-        ensures { result ≡ newest_to cell (stores_of self.now) }
+        ensures { result ≡ newest_to cell self.now }
     {
-        let mut newest = None;
-        for store in self.stores.iter() {
-            if store.cell == cell {
-                newest = Some(store.value);
-            }
-        }
-        newest
+        self.stores
+            .iter()
+            .rev()
+            .find(|store| store.cell == cell)
+            .map(|store| store.value)
     }
 
     // Where the oldest store to a cell stands.
     fn place(&self, cell: usize) -> Option<usize>
-        ensures { result ≡ place_of 0 cell (stores_of self.now) }
+        ensures { result ≡ position (λ s. s.cell == cell) self.now }
     {
-        for (place, store) in self.stores.iter().enumerate() {
-            if store.cell == cell {
-                return Some(place);
-            }
-        }
-        None
+        self.stores.iter().position(|store| store.cell == cell)
     }
 
     // Whether a store to a cell waits.
     pub(crate) fn waits_to(&self, cell: usize) -> bool
-        ensures { result ≡ waits_to cell (stores_of self.now) }
+        ensures { result ≡ waits_to cell self.now }
     {
-        self.place(cell).is_some()
+        self.stores.iter().any(|store| store.cell == cell)
     }
 
     // Whether the oldest store is to a cell.
     pub(crate) fn oldest_is_to(&self, cell: usize) -> bool
-        ensures { result ≡ oldest_is_to cell (stores_of self.now) }
+        ensures { result ≡ oldest_is_to cell self.now }
     {
-        match self.stores.first() {
-            Some(store) => store.cell == cell,
-            None => false,
-        }
+        self.stores.first().is_some_and(|store| store.cell == cell)
     }
 
     // Takes the oldest store to a cell out and tells its value.
     pub(crate) fn take(&mut self, cell: usize) -> Option<u32>
-        ensures value { result ≡ oldest_to cell (stores_of self.old) }
-        ensures stores { stores_of self.new ≡ without_oldest cell (stores_of self.old) }
+        ensures value { result ≡ oldest_to cell self.old }
+        ensures stores { self.new ≡ without_oldest cell self.old }
     {
         let place = self.place(cell)?;
         let store = self.stores.remove(place);
@@ -91,7 +83,7 @@ impl Row {
 
     // Takes every store out.
     pub(crate) fn clear(&mut self)
-        ensures { stores_of self.new ≡ [] }
+        ensures { self.new ≡ [] }
     {
         self.stores.clear();
     }

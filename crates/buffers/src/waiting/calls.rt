@@ -5,36 +5,20 @@ ghost use Rattle.buffers.specs.Kinds.{oldest_is_to};
 ghost use Rattle.buffers.specs.Lists.{list_of, newest_to, nothing_waits, oldest_to, waits_to, without_oldest};
 ghost use Rattle.buffers.specs.Waits.{lists_in};
 
-use super::super::held::Held;
+use super::super::limits::{CELLS, MOST, THREADS};
 use super::super::row::Row;
 use super::Waiting;
 use refusal::Refusal;
 use std::alloc::{AllocError, Global};
-
-const THREADS: usize = 8;
-
-const CELLS: usize = 16;
-
-const MOST: usize = 16;
+use std::array;
 
 impl Waiting {
     // Nothing waits. This is where memory may fail.
     pub(crate) fn new(heap: Global) -> Result<Waiting, AllocError>
         ensures { IfOk result (λ w. lists_in w ≡ no_stores) }
     {
-        let rows = [
-            Row::new(heap)?,
-            Row::new(heap)?,
-            Row::new(heap)?,
-            Row::new(heap)?,
-            Row::new(heap)?,
-            Row::new(heap)?,
-            Row::new(heap)?,
-            Row::new(heap)?,
-        ];
-        Ok(Waiting {
-            rows: Held { value: rows },
-        })
+        let rows = array::try_from_fn(|_thread| Row::new(heap))?;
+        Ok(Waiting { rows })
     }
 
     pub(crate) fn put(&mut self, thread: usize, cell: usize, value: u32) -> Result<(), Refusal>
@@ -50,17 +34,14 @@ impl Waiting {
         if self.count(thread) >= MOST {
             return Err(Refusal::BufferFull);
         }
-        self.rows.value[thread].put(cell, value);
+        self.rows[thread].put(cell, value);
         Ok(())
     }
 
     pub(crate) fn newest(&self, thread: usize, cell: usize) -> Option<u32>
         ensures { result ≡ newest_to cell (list_of (lists_in self.now) thread) }
     {
-        if thread >= THREADS {
-            return None;
-        }
-        self.rows.value[thread].newest(cell)
+        self.rows.get(thread)?.newest(cell)
     }
 
     // Takes the thread's oldest store to a cell out, if there is one, and tells its value.
@@ -68,49 +49,44 @@ impl Waiting {
         ensures value { result ≡ oldest_to cell (list_of (lists_in self.old) thread) }
         ensures lists { lists_in self.new ≡ slice_set (lists_in self.old) thread (without_oldest cell (list_of (lists_in self.old) thread)) }
     {
+        // By index: after `get_mut` of an array a proof knows none of its rows.
         if thread >= THREADS {
             return None;
         }
-        self.rows.value[thread].take(cell)
+        self.rows[thread].take(cell)
     }
 
     pub(crate) fn count(&self, thread: usize) -> usize
         ensures { result ≡ length (list_of (lists_in self.now) thread) }
     {
-        if thread >= THREADS {
-            return 0;
-        }
-        self.rows.value[thread].len()
+        self.rows.get(thread).map_or(0, |row| row.len())
     }
 
     pub(crate) fn waits_to(&self, thread: usize, cell: usize) -> bool
         ensures { result ≡ waits_to cell (list_of (lists_in self.now) thread) }
     {
-        thread < THREADS && self.rows.value[thread].waits_to(cell)
+        self.rows.get(thread).is_some_and(|row| row.waits_to(cell))
     }
 
     pub(crate) fn oldest_is_to(&self, thread: usize, cell: usize) -> bool
         ensures { result ≡ oldest_is_to cell (list_of (lists_in self.now) thread) }
     {
-        thread < THREADS && self.rows.value[thread].oldest_is_to(cell)
+        self.rows
+            .get(thread)
+            .is_some_and(|row| row.oldest_is_to(cell))
     }
 
     // Whether nothing waits in any thread.
     pub(crate) fn is_empty(&self) -> bool
         ensures { result ≡ nothing_waits (lists_in self.now) }
     {
-        for row in self.rows.value.iter() {
-            if row.len() > 0 {
-                return false;
-            }
-        }
-        true
+        self.rows.iter().all(|row| row.is_empty())
     }
 
     pub(crate) fn clear(&mut self)
         ensures { lists_in self.new ≡ no_stores }
     {
-        for row in self.rows.value.iter_mut() {
+        for row in &mut self.rows {
             row.clear();
         }
     }

@@ -1,29 +1,14 @@
-use Rattle.std.proofs.Common.{◌+◌, ◌<◌, length, get_or, drop, ap, ◌∙◌, arith}
-use Rattle.std.proofs.lemmas.Bool.{eq-eqb, ne_eqb}
-use Rattle.buffers.specs.Lists.{else_this, newest_to}
-use Rattle.buffers.proofs.Stores.{blank, else_none, newest_here, newest_later, newest_done}
+use Rattle.std.proofs.Common.{◌≡◌, reverse, ap, ◌∙◌, rules}
+use Rattle.std.proofs.lemmas.Iterator.Adapters.{YieldsList-from_rev_slice}
+use Rattle.std.proofs.lemmas.Iterator.Search.{find_from_yields_List}
+use Rattle.std.specs.List.{find}
+use Rattle.std.specs.Option.{option_map}
+use borrow.Author.Tests.{tests}
+use Rattle.buffers.proofs.Stores.{newest_found, to}
 use Rattle.buffers.proofs.row.Row.newest.Goals as goal
-use Rattle.buffers.proofs.row.Row.newest.Goals.{then-store-cell, else-store-cell}
-
-pub loop-store-init : goal.loop-store-init
-loop-store-init c = else_none (newest_to c.args.cell c.deref-store-items.result.now)
-
-pub loop-store-preserved : goal.loop-store-preserved
-loop-store-preserved c =
-    let stores = c.deref-store-items.result.now in
-    let i = c.loop-store.store-index in
-    let cell = c.args.cell in
-    let within : i < length stores = omega arith in
-    elim c.if-store-cell.branch [
-      | then-store-cell w ↦
-          ap (else_this (newest_to cell (drop (i + 1) stores))) w.newest-is
-          ∙ newest_here cell stores i blank c.loop-store.newest within (eq-eqb (get_or stores i blank).cell cell w.if-store-cell.true) c.loop-store.invariant
-      | else-store-cell w ↦
-          ap (else_this (newest_to cell (drop (i + 1) stores))) w.newest-is
-          ∙ newest_later cell stores i blank c.loop-store.newest within (ne_eqb (get_or stores i blank).cell cell w.if-store-cell.false) c.loop-store.invariant
-    ]
 
 pub returns : goal.returns
 returns c =
-    newest_done c.args.cell c.deref-store-items.result.now c.loop-store.store-index blank c.loop-store.newest c.loop-store-test.false c.loop-store.invariant
-    ∙ ap (newest_to c.args.cell) c.deref-store-items.ensures.value
+    let found : option_map (λ r. r.now) c.find.result ≡ find (to c.args.cell) (reverse c.args.self.now) = find_from_yields_List (to c.args.cell) _ _ c.find.result c.find.ensures.ran (YieldsList-from_rev_slice c.args.self.now cc) (λ x b q k. search (rules, tests)) in
+    let read : c.map.result ≡ option_map (λ s. s.value) (option_map (λ r. r.now) c.find.result) = search rules in
+    read ∙ ap (option_map (λ s. s.value)) found ∙ newest_found c.args.cell c.args.self.now

@@ -1,7 +1,11 @@
-use Rattle.std.proofs.Common.{is_some, ap, ◌∙◌}
-use Rattle.buffers.specs.Rows.{stores_of}
-use Rattle.buffers.proofs.Stores.{place_waits}
+use Rattle.std.proofs.Common.{◌∙◌, rules}
+use Rattle.std.proofs.lemmas.Iterator.{YieldsList-from_slice}
+use Rattle.std.proofs.lemmas.Iterator.Search.{any_from_yields_List}
+use borrow.Author.Tests.{tests}
+use Rattle.buffers.proofs.Stores.{to, waits_any}
 use Rattle.buffers.proofs.row.Row.waits_to.Goals as goal
 
 pub returns : goal.returns
-returns c = c.is_some.ensures ∙ ap is_some c.place.ensures ∙ place_waits 0 c.args.cell (stores_of c.args.self.now)
+returns c =
+    any_from_yields_List (to c.args.cell) _ _ _ c.any.ensures.ran (YieldsList-from_slice c.args.self.now cc) (λ x b q k. search (rules, tests))
+    ∙ waits_any c.args.cell c.args.self.now
