@@ -4,6 +4,7 @@ use Rattle.std.proofs.Common.{◌≡◌, ℕ, ◌<◌, ◌≤◌, Bool, true, fa
 use lib.ListN.{length-replicate}
 use Rattle.std.specs.List.{slice_get}
 use Rattle.std.proofs.lemmas.List.{get_or-replicate, get_or_past}
+use Rattle.std.proofs.lemmas.List.Elements.{All-from_get_or}
 use Rattle.std.proofs.lemmas.Option.{slice_get_past}
 use Rattle.std.proofs.lemmas.Bool.{true≢false, and_parts, and_from, not-true, not_from_false, cases_lt, both_ways}
 use Rattle.graph.specs.Chains.{Chain, edge, onward}
@@ -12,7 +13,7 @@ use Rattle.program.specs.declared.forms.Instruction.TheVariants.{Load, Store, Fe
 use Rattle.program.specs.declared.lines.Line.{Line}
 use Rattle.attacks.specs.Attacks.{Path, step, through, follows, has, passes, is_fence, is_load, is_store}
 use Rattle.attacks.specs.Paths.{goes_on}
-use Rattle.attacks.specs.Tables.{RightRow, RightTable}
+use Rattle.attacks.specs.Tables.{Long, RightRow, RightTable}
 
 -- A chain of edges is a path, and its last line is no fence.
 path_from_chain : (ls : List Line) {m n : ℕ} → Chain (goes_on ls) m n → Path ls m n × (has is_fence ls n ≡ false)
@@ -75,8 +76,11 @@ blank_row n l =
     ⊎_elim (λ within. get_or-replicate n l false false within) (λ past. get_or_past (replicate n false) l false (omega (arith, length-replicate n false))) (cases_lt l n)
 
 -- A table with a right row for each line is right.
-pub table_from_rows : (ls : List Line) (rows : List (List Bool)) (n : ℕ) → length ls ≤ n → length rows ≡ n → ((s : ℕ) → s < n → RightRow ls s (get_or rows s [])) → RightTable ls rows
-table_from_rows ls rows n few long right s =
-    ⊎_elim (right s)
-    (λ past. row_of_none ls s (get_or rows s []) (ap (passes is_store) (slice_get_past ls s (omega arith))) (λ l. ap (λ row. get_or row l false) (get_or_past rows s [] (omega arith))))
-    (cases_lt s n)
+pub table_from_rows : (ls : List Line) (rows : List (List Bool)) (n : ℕ) → length ls ≤ n → length rows ≡ n → ((s : ℕ) → s < n → Long (get_or rows s []) × RightRow ls s (get_or rows s [])) → RightTable ls rows
+table_from_rows ls rows n few many made = record {
+  long = All-from_get_or Long rows [] (λ s below. (made s (omega arith)).0);
+  right = λ s.
+      ⊎_elim (λ below. (made s below).1)
+      (λ past. row_of_none ls s (get_or rows s []) (ap (passes is_store) (slice_get_past ls s (omega arith))) (λ l. ap (λ row. get_or row l false) (get_or_past rows s [] (omega arith))))
+      (cases_lt s n);
+}

@@ -1,6 +1,6 @@
 // The table of attack pairs: a search for each store.
 ghost use Rattle.program.specs.Programs.{lines_of};
-ghost use Rattle.attacks.specs.Tables.{RightRow, RightTable};
+ghost use Rattle.attacks.specs.Tables.{Long, RightRow, RightTable};
 
 use super::paths::{CodePaths, is_load, is_store};
 use graph::reached;
@@ -16,14 +16,16 @@ pub fn attack_table(program: &Program) -> Table
 {
     array::from_fn(
         |store|
-            ensures { RightRow (lines_of program.entry.now) store result }
+            ensures long { Long result }
+            ensures right { RightRow (lines_of program.entry.now) store result }
         { row_of(program, store) },
     )
 }
 
 // Marks the loads that make an attack pair with that line: none, if it is no store.
 fn row_of(program: &Program, store: usize) -> [bool; 128]
-    ensures { RightRow (lines_of program.now) store result }
+    ensures long { Long result }
+    ensures right { RightRow (lines_of program.now) store result }
 {
     if !is_store(program, store) {
         return [false; 128];

@@ -5,11 +5,11 @@ use Rattle.attacks.proofs.Chained.{blank_row, row_from_reached, row_of_none}
 use Rattle.attacks.proofs.Made.{made_at}
 use Rattle.attacks.proofs.table.row_of.Goals as goal
 
-pub returns-then-not-is_store : goal.returns-then-not-is_store
-returns-then-not-is_store c = row_of_none (lines_of c.args.program.now) c.args.store _ (sym c.if-not-is_store.ensures) (blank_row 128)
+pub returns-then-not-is_store-clause-right : goal.returns-then-not-is_store-clause-right
+returns-then-not-is_store-clause-right c = row_of_none (lines_of c.args.program.now) c.args.store _ (sym c.if-not-is_store.ensures) (blank_row 128)
 
-pub returns : goal.returns
-returns c =
+pub returns-clause-right : goal.returns-clause-right
+returns-clause-right c =
     let ls = lines_of c.args.program.now in
     let found = c.reached-reached.result in
     let marks = c.from_fn.result in
