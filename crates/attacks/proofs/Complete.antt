@@ -1,13 +1,12 @@
 -- A table that marks exactly the attack pairs lists exactly them, in order, and so the call answers.
-use Rattle.std.proofs.Common.{◌≡◌, ℕ, zero, suc, ◌+◌, ◌-◌, ◌*◌, ◌/◌, ◌%◌, ◌<◌, ◌≤◌, Bool, true, false, leb, List, [], ◌∷◌, ◌++◌, length, get_or, drop, Ok, Err, sym, refl, ap, ◌∙◌, subst, inl, inr, ⊎_elim, add-zero, zero-add, arith}
+use Rattle.std.proofs.Common.{◌≡◌, ℕ, zero, suc, ◌+◌, ◌-◌, ◌*◌, ◌/◌, ◌%◌, ◌<◌, Bool, true, false, List, [], ◌∷◌, ◌++◌, length, get_or, sym, refl, ap, ◌∙◌, subst, inl, inr, ⊎_elim, add-zero, zero-add, arith}
 use Rattle.std.specs.List.{All, Contains, flat_map}
 use Rattle.std.proofs.lemmas.List.{get_or_append_left, get_or-append_right, get_or_past}
 use Rattle.std.proofs.lemmas.List.Elements.{All-nil, All-cons, All-head, All-tail, Contains-append_right}
-use Rattle.std.proofs.lemmas.Bool.{true≢false, le-leb, lt-leb, cond-true, cond-false, cases_lt, both_ways}
-use Rattle.refusal.specs.declared.Refusal.TheVariants.{TooShort}
+use Rattle.std.proofs.lemmas.Bool.{true≢false, cases_lt, both_ways}
 use Rattle.program.specs.declared.lines.Line.{Line}
 use Rattle.attacks.specs.declared.pair.Pair.{Pair}
-use Rattle.attacks.specs.Attacks.{Attack, AttackPairs, Before, Ascending, Listed}
+use Rattle.attacks.specs.Attacks.{Attack, AttackPairs, Before, Ascending}
 use Rattle.attacks.specs.Tables.{Long, RightTable, marked_pairs, pair, place_pair, table_pairs}
 
 -- One step on from i is one place less from i + 1.
@@ -76,7 +75,7 @@ pair_at s l within =
     ap (λ k. pair k ((0 + (128 * s + l)) % 128)) store ∙ ap (pair s) load
 
 -- A right table lists exactly the attack pairs, in order.
-table_attacks : (ls : List Line) (rows : List (List Bool)) → RightTable ls rows → AttackPairs ls (table_pairs rows)
+pub table_attacks : (ls : List Line) (rows : List (List Bool)) → RightTable ls rows → AttackPairs ls (table_pairs rows)
 table_attacks ls rows right =
     let flat = flat_map (λ (row : List Bool). row) rows in
     record {
@@ -90,26 +89,4 @@ table_attacks ls rows right =
           subst (Contains (table_pairs rows)) (pair_at p.store p.load within)
           (pairs_complete 0 flat (128 * p.store + p.load) (flat_at rows right.long p.store p.load within ∙ marked));
       ascending = pairs_ascend 0 flat;
-    }
-
--- A list that has a place for each of them.
-pub listed_all : (ls : List Line) (rows : List (List Bool)) (before after : List Pair) (n : ℕ) → RightTable ls rows → n ≡ length (table_pairs rows) → n ≤ length before → after ≡ table_pairs rows ++ drop (length (table_pairs rows)) before → Listed ls before (Ok n) after
-listed_all ls rows before after n right count room written =
-    let fits : leb (length (table_pairs rows)) (length before) ≡ true = le-leb (length (table_pairs rows)) (length before) (omega arith) in
-    record {
-      pairs = table_pairs rows;
-      all = table_attacks ls rows right;
-      value = ap Ok count ∙ sym (cond-true (leb (length (table_pairs rows)) (length before)) (Ok (length (table_pairs rows))) (Err TooShort) fits);
-      list = written ∙ sym (cond-true (leb (length (table_pairs rows)) (length before)) (table_pairs rows ++ drop (length (table_pairs rows)) before) before fits);
-    }
-
--- A list that has not.
-pub listed_none : (ls : List Line) (rows : List (List Bool)) (before : List Pair) (n : ℕ) → RightTable ls rows → n ≡ length (table_pairs rows) → length before < n → Listed ls before (Err TooShort) before
-listed_none ls rows before n right count short =
-    let over : leb (length (table_pairs rows)) (length before) ≡ false = lt-leb (length (table_pairs rows)) (length before) (omega arith) in
-    record {
-      pairs = table_pairs rows;
-      all = table_attacks ls rows right;
-      value = sym (cond-false (leb (length (table_pairs rows)) (length before)) (Ok (length (table_pairs rows))) (Err TooShort) over);
-      list = sym (cond-false (leb (length (table_pairs rows)) (length before)) (table_pairs rows ++ drop (length (table_pairs rows)) before) before over);
     }
