@@ -1,9 +1,10 @@
 -- A chain of the graph's edges is a path through the code, so what the search reaches from a store are the loads of its
 -- attack pairs.
-use Rattle.std.proofs.Common.{◌≡◌, ℕ, ◌<◌, Bool, true, false, not, ◌&&◌, List, [], length, get_or, replicate, Some, None, Option, sym, refl, ap, ◌∙◌, ⊎_elim, arith}
+use Rattle.std.proofs.Common.{◌≡◌, ℕ, ◌<◌, ◌≤◌, Bool, true, false, not, ◌&&◌, List, [], length, get_or, replicate, Some, None, Option, sym, refl, ap, ◌∙◌, ⊎_elim, arith}
 use lib.ListN.{length-replicate}
 use Rattle.std.specs.List.{slice_get}
 use Rattle.std.proofs.lemmas.List.{get_or-replicate, get_or_past}
+use Rattle.std.proofs.lemmas.List.Elements.{All-from_get_or}
 use Rattle.std.proofs.lemmas.Option.{slice_get_past}
 use Rattle.std.proofs.lemmas.Bool.{true≢false, and_parts, and_from, not-true, not_from_false, cases_lt, both_ways}
 use Rattle.graph.specs.Chains.{Chain, edge, onward}
@@ -12,8 +13,7 @@ use Rattle.program.specs.declared.forms.Instruction.TheVariants.{Load, Store, Fe
 use Rattle.program.specs.declared.lines.Line.{Line}
 use Rattle.attacks.specs.Attacks.{Path, step, through, follows, has, passes, is_fence, is_load, is_store}
 use Rattle.attacks.specs.Paths.{goes_on}
-use Rattle.attacks.specs.Tables.{RightRow, RightTable}
-use Rattle.attacks.proofs.Filling.{Filled}
+use Rattle.attacks.specs.Tables.{Long, RightRow, RightTable}
 
 -- A chain of edges is a path, and its last line is no fence.
 path_from_chain : (ls : List Line) {m n : ℕ} → Chain (goes_on ls) m n → Path ls m n × (has is_fence ls n ≡ false)
@@ -48,45 +48,39 @@ below_length : (test : Instruction → Bool) (ls : List Line) (n : ℕ) → has 
 below_length test ls n there =
     ⊎_elim (λ below. below) (λ past. absurd (true≢false (sym there ∙ ap (passes test) (slice_get_past ls n past)))) (cases_lt n (length ls))
 
--- What is marked: a load that the search reached.
-abbrev pub LoadReached : List Line → List Bool → ℕ → Bool → Type 0
-LoadReached ls found l mark = mark ≡ (get_or found l false && has is_load ls l)
-
-abbrev pub Unmarked : Bool → Type 0
-Unmarked mark = mark ≡ false
-
 -- The loads that a search from a store reaches are those of its attack pairs.
-pub row_from_reached : (ls : List Line) (s : ℕ) (found marks : List Bool) → has is_store ls s ≡ true → ((n : ℕ) → get_or found n false ≡ true → Chain (goes_on ls) s n) → ((n : ℕ) → Chain (goes_on ls) s n → get_or found n false ≡ true) → Filled (LoadReached ls found) Unmarked false marks (length ls) → RightRow ls s marks
-row_from_reached ls s found marks store sound complete filled = record {
-  only = λ l marked.
+pub row_from_reached : (ls : List Line) (s : ℕ) (found marks : List Bool) → has is_store ls s ≡ true → ((n : ℕ) → get_or found n false ≡ true → Chain (goes_on ls) s n) → ((n : ℕ) → Chain (goes_on ls) s n → get_or found n false ≡ true) → (n : ℕ) → length ls ≤ n → length marks ≡ n → ((l : ℕ) → l < n → get_or marks l false ≡ (get_or found l false && has is_load ls l)) → RightRow ls s marks
+row_from_reached ls s found marks store sound complete n few long marked = record {
+  only = λ l mark.
       ⊎_elim
       (λ below.
-      let both = and_parts (get_or found l false) (has is_load ls l) (sym (filled.0 l below) ∙ marked) in
+      let both = and_parts (get_or found l false) (has is_load ls l) (sym (marked l below) ∙ mark) in
       record { store = store; load = both.1; path = (path_from_chain ls (sound l both.0)).0 })
-      (λ past. absurd (both_ways (get_or marks l false) (filled.1 l past) marked))
-      (cases_lt l (length ls));
+      (λ past. absurd (both_ways (get_or marks l false) (get_or_past marks l false (omega arith)) mark))
+      (cases_lt l n);
   all = λ l attack.
-      filled.0 l (below_length is_load ls l attack.load)
+      let below = below_length is_load ls l attack.load in
+      marked l (omega (arith, below))
       ∙ and_from (get_or found l false) (has is_load ls l) (complete l (chain_from_path ls attack.path (load_line (slice_get ls l) attack.load))) attack.load;
 }
 
 -- A row with no mark is right for a line that is no store.
-abbrev pub Blank : List Bool → Type 0
-Blank marks = (l : ℕ) → get_or marks l false ≡ false
-
-pub blank_row : (n : ℕ) → Blank (replicate n false)
-blank_row n l =
-    ⊎_elim (λ within. get_or-replicate n l false false within) (λ past. get_or_past (replicate n false) l false (omega (arith, length-replicate n false))) (cases_lt l n)
-
-pub row_of_none : (ls : List Line) (s : ℕ) (marks : List Bool) → has is_store ls s ≡ false → Blank marks → RightRow ls s marks
+pub row_of_none : (ls : List Line) (s : ℕ) (marks : List Bool) → has is_store ls s ≡ false → ((l : ℕ) → get_or marks l false ≡ false) → RightRow ls s marks
 row_of_none ls s marks none blank = record {
   only = λ l marked. absurd (both_ways (get_or marks l false) (blank l) marked);
   all = λ l attack. absurd (both_ways (has is_store ls s) none attack.store);
 }
 
--- A table with a right row for each line, and no other mark, is right.
-pub table_from_rows : (ls : List Line) (rows : List (List Bool)) → Filled (RightRow ls) Blank [] rows (length ls) → RightTable ls rows
-table_from_rows ls rows filled s =
-    ⊎_elim (filled.0 s)
-    (λ past. row_of_none ls s (get_or rows s []) (ap (passes is_store) (slice_get_past ls s past)) (filled.1 s past))
-    (cases_lt s (length ls))
+pub blank_row : (n l : ℕ) → get_or (replicate n false) l false ≡ false
+blank_row n l =
+    ⊎_elim (λ within. get_or-replicate n l false false within) (λ past. get_or_past (replicate n false) l false (omega (arith, length-replicate n false))) (cases_lt l n)
+
+-- A table with a right row for each line is right.
+pub table_from_rows : (ls : List Line) (rows : List (List Bool)) (n : ℕ) → length ls ≤ n → length rows ≡ n → ((s : ℕ) → s < n → Long (get_or rows s []) × RightRow ls s (get_or rows s [])) → RightTable ls rows
+table_from_rows ls rows n few many made = record {
+  long = All-from_get_or Long rows [] (λ s below. (made s (omega arith)).0);
+  right = λ s.
+      ⊎_elim (λ below. (made s below).1)
+      (λ past. row_of_none ls s (get_or rows s []) (ap (passes is_store) (slice_get_past ls s (omega arith))) (λ l. ap (λ row. get_or row l false) (get_or_past rows s [] (omega arith))))
+      (cases_lt s n);
+}

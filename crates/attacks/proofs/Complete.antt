@@ -1,121 +1,92 @@
 -- A table that marks exactly the attack pairs lists exactly them, in order, and so the call answers.
-use Rattle.std.proofs.Common.{◌≡◌, ℕ, zero, suc, ◌+◌, ◌<◌, ◌≤◌, Bool, true, false, leb, List, [], ◌∷◌, ◌++◌, length, get_or, drop, Ok, Err, sym, refl, ap, ◌∙◌, subst, inl, inr, add-zero, zero-add, arith}
-use Rattle.std.specs.List.{ContainsAt as Has, AllByRecursion}
-use Rattle.std.proofs.ByRecursion.{All-append, All-weaker, has_append_left, has_append_right}
-use Rattle.std.proofs.lemmas.Bool.{true≢false, le-leb, lt-leb, cond-true, cond-false}
-use Rattle.refusal.specs.declared.Refusal.TheVariants.{TooShort}
+use Rattle.std.proofs.Common.{◌≡◌, ℕ, zero, suc, ◌+◌, ◌-◌, ◌*◌, ◌/◌, ◌%◌, ◌<◌, Bool, true, false, List, [], ◌∷◌, ◌++◌, length, get_or, sym, refl, ap, ◌∙◌, subst, inl, inr, ⊎_elim, add-zero, zero-add, arith}
+use Rattle.std.specs.List.{All, Contains, flat_map}
+use Rattle.std.proofs.lemmas.List.{get_or_append_left, get_or-append_right, get_or_past}
+use Rattle.std.proofs.lemmas.List.Elements.{All-nil, All-cons, All-head, All-tail, Contains-append_right}
+use Rattle.std.proofs.lemmas.Bool.{true≢false, cases_lt, both_ways}
 use Rattle.program.specs.declared.lines.Line.{Line}
 use Rattle.attacks.specs.declared.pair.Pair.{Pair}
-use Rattle.attacks.specs.Attacks.{Attack, AttackPairs, Before, Ascending, Listed}
-use Rattle.attacks.specs.Tables.{RightTable, pair, row_pairs, table_pairs}
+use Rattle.attacks.specs.Attacks.{Attack, AttackPairs, Before, Ascending}
+use Rattle.attacks.specs.Tables.{Long, RightTable, marked_pairs, pair, place_pair, table_pairs}
 
 -- One step on from i is one place less from i + 1.
 add_one_in : (i k : ℕ) → i + suc k ≡ i + 1 + k
 add_one_in i k = omega arith
 
--- a place of the row is marked
-abbrev pub Marked : List Bool → ℕ → Type 0
-Marked marks l = get_or marks l false ≡ true
+-- a place is marked
+abbrev Marked : List Bool → ℕ → Type 0
+Marked marks k = get_or marks k false ≡ true
 
--- Every pair of a row has its store and a load from i on.
-row_from : (s i : ℕ) (marks : List Bool) → AllByRecursion (λ p. (p.store ≡ s) × (i ≤ p.load)) (row_pairs s i marks)
-row_from s i [] = tt
-row_from s i (true ∷ marks) = ((refl, omega arith), All-weaker _ _ (λ p h. (h.0, omega (arith, h.1))) _ (row_from s (i + 1) marks))
-row_from s i (false ∷ marks) = All-weaker _ _ (λ p h. (h.0, omega (arith, h.1))) _ (row_from s (i + 1) marks)
+-- What holds of the pair of every marked place holds of all pairs.
+pairs_all : (P : Pair → Type 0) (i : ℕ) (marks : List Bool) → ((k : ℕ) → Marked marks k → P (place_pair (i + k))) → All P (marked_pairs i marks)
+pairs_all P i [] right = All-nil P
+pairs_all P i (true ∷ marks) right =
+    All-cons P (place_pair i) (marked_pairs (i + 1) marks) (subst (λ k. P (place_pair k)) (add-zero i) (right 0 refl))
+    (pairs_all P (i + 1) marks (λ k m. subst (λ n. P (place_pair n)) (add_one_in i k) (right (suc k) m)))
+pairs_all P i (false ∷ marks) right = pairs_all P (i + 1) marks (λ k m. subst (λ n. P (place_pair n)) (add_one_in i k) (right (suc k) m))
 
--- The pairs of a row ascend.
-row_ascends : (s i : ℕ) (marks : List Bool) → Ascending (row_pairs s i marks)
-row_ascends s i [] = tt
-row_ascends s i (true ∷ marks) = (All-weaker _ _ (λ p h. inr (sym h.0, omega (arith, h.1))) _ (row_from s (i + 1) marks), row_ascends s (i + 1) marks)
-row_ascends s i (false ∷ marks) = row_ascends s (i + 1) marks
+-- The pair of a place comes before that of each later place.
+before_later : (i k : ℕ) → i < k → Before (place_pair i) (place_pair k)
+before_later i k later = ⊎_elim (λ row. inl row) (λ same. inr (omega arith, omega arith)) (cases_lt (i / 128) (k / 128))
 
--- What holds of every marked place holds of every pair of the row.
-row_sound : (P : ℕ → Type 0) (s i : ℕ) (marks : List Bool) → ((k : ℕ) → Marked marks k → P (i + k)) → AllByRecursion (λ p. (p.store ≡ s) × P p.load) (row_pairs s i marks)
-row_sound P s i [] right = tt
-row_sound P s i (true ∷ marks) right =
-    ((refl, subst P (add-zero i) (right 0 refl)), row_sound P s (i + 1) marks (λ k m. subst P (add_one_in i k) (right (suc k) m)))
-row_sound P s i (false ∷ marks) right = row_sound P s (i + 1) marks (λ k m. subst P (add_one_in i k) (right (suc k) m))
+pairs_ascend : (i : ℕ) (marks : List Bool) → Ascending (marked_pairs i marks)
+pairs_ascend i [] = tt
+pairs_ascend i (true ∷ marks) = (pairs_all (Before (place_pair i)) (i + 1) marks (λ k m. before_later i (i + 1 + k) (omega arith)), pairs_ascend (i + 1) marks)
+pairs_ascend i (false ∷ marks) = pairs_ascend (i + 1) marks
 
--- A list has what it has behind its first element.
-has_behind : {X : Type 0} (x : X) (xs : List X) (y : X) → Has xs y → Has (x ∷ xs) y
-has_behind x xs y = has_append_right (x ∷ []) xs y
+-- Every marked place gives its pair.
+pairs_complete : (i : ℕ) (marks : List Bool) (k : ℕ) → Marked marks k → Contains (marked_pairs i marks) (place_pair (i + k))
+pairs_complete i [] k marked = absurd (true≢false (sym marked))
+pairs_complete i (true ∷ marks) zero marked = (0, omega arith, ap place_pair (sym (add-zero i)))
+pairs_complete i (true ∷ marks) (suc k) marked =
+    subst (λ n. Contains (marked_pairs i (true ∷ marks)) (place_pair n)) (sym (add_one_in i k))
+    (Contains-append_right (place_pair i ∷ []) (marked_pairs (i + 1) marks) (place_pair (i + 1 + k)) (pairs_complete (i + 1) marks k marked))
+pairs_complete i (false ∷ marks) zero marked = absurd (true≢false (sym marked))
+pairs_complete i (false ∷ marks) (suc k) marked =
+    subst (λ n. Contains (marked_pairs i (false ∷ marks)) (place_pair n)) (sym (add_one_in i k)) (pairs_complete (i + 1) marks k marked)
 
--- Every marked place of a row gives a pair.
-row_complete : (s i : ℕ) (marks : List Bool) (k : ℕ) → Marked marks k → Has (row_pairs s i marks) (pair s (i + k))
-row_complete s i [] k marked = absurd (true≢false (sym marked))
-row_complete s i (true ∷ marks) zero marked = (0, omega arith, λ d. ap (pair s) (sym (add-zero i)))
-row_complete s i (true ∷ marks) (suc k) marked =
-    subst (λ n. Has (row_pairs s i (true ∷ marks)) (pair s n)) (sym (add_one_in i k))
-    (has_behind (pair s i) (row_pairs s (i + 1) marks) (pair s (i + 1 + k)) (row_complete s (i + 1) marks k marked))
-row_complete s i (false ∷ marks) zero marked = absurd (true≢false (sym marked))
-row_complete s i (false ∷ marks) (suc k) marked =
-    subst (λ n. Has (row_pairs s i (false ∷ marks)) (pair s n)) (sym (add_one_in i k)) (row_complete s (i + 1) marks k marked)
+-- The place l of the row s, in the whole table.
+flat_at : (rows : List (List Bool)) → All Long rows → (s l : ℕ) → l < 128 → get_or (flat_map (λ row. row) rows) (128 * s + l) false ≡ get_or (get_or rows s []) l false
+flat_at [] long s l within = refl
+flat_at (row ∷ rows) long zero l within =
+    let place : 128 * 0 + l ≡ l = omega arith in
+    let full : length row ≡ 128 = All-head Long row rows long in
+    ap (λ k. get_or (row ++ flat_map (λ r. r) rows) k false) place ∙ get_or_append_left row (flat_map (λ r. r) rows) false l (omega arith)
+flat_at (row ∷ rows) long (suc s) l within =
+    let place : 128 * suc s + l - 128 ≡ 128 * s + l = omega arith in
+    get_or-append_right row (flat_map (λ r. r) rows) 128 (128 * suc s + l) false (All-head Long row rows long) (omega arith)
+    ∙ ap (λ k. get_or (flat_map (λ r. r) rows) k false) place
+    ∙ flat_at rows (All-tail Long row rows long) s l within
 
--- Every pair of a table has a store from s on.
-table_from : (s : ℕ) (rows : List (List Bool)) → AllByRecursion (λ p. s ≤ p.store) (table_pairs s rows)
-table_from s [] = tt
-table_from s (row ∷ rows) =
-    All-append _ (row_pairs s 0 row) (table_pairs (s + 1) rows) (All-weaker _ _ (λ p h. omega (arith, h.0)) _ (row_from s 0 row))
-    (All-weaker _ _ (λ p h. omega (arith, h)) _ (table_from (s + 1) rows))
+-- A place that is marked stands in a row of that length.
+in_row : (rows : List (List Bool)) → All Long rows → (s l : ℕ) → Marked (get_or rows s []) l → l < 128
+in_row rows long s l marked =
+    ⊎_elim (λ below. below)
+    (λ past. absurd (both_ways (get_or (get_or rows s []) l false)
+    (⊎_elim (λ there. get_or_past (get_or rows s []) l false (omega (arith, long s [] there))) (λ gone. ap (λ row. get_or row l false) (get_or_past rows s [] gone)) (cases_lt s (length rows)))
+    marked))
+    (cases_lt l 128)
 
--- Two ascending lists, the first all before the second, ascend together.
-ascending_append : (ps qs : List Pair) → Ascending ps → Ascending qs → AllByRecursion (λ p. AllByRecursion (Before p) qs) ps → Ascending (ps ++ qs)
-ascending_append [] qs up above apart = above
-ascending_append (p ∷ ps) qs up above apart = (All-append (Before p) ps qs up.0 apart.0, ascending_append ps qs up.1 above apart.1)
-
--- The pairs of a table ascend.
-table_ascends : (s : ℕ) (rows : List (List Bool)) → Ascending (table_pairs s rows)
-table_ascends s [] = tt
-table_ascends s (row ∷ rows) =
-    let later = table_from (s + 1) rows in
-    ascending_append (row_pairs s 0 row) (table_pairs (s + 1) rows) (row_ascends s 0 row) (table_ascends (s + 1) rows)
-    (All-weaker _ _ (λ p h. All-weaker _ _ (λ q k. inl (omega (arith, h.0, k))) _ later) _ (row_from s 0 row))
-
--- What holds of every marked place holds of every pair of the table.
-table_sound : (P : ℕ → ℕ → Type 0) (s : ℕ) (rows : List (List Bool)) → ((k l : ℕ) → Marked (get_or rows k []) l → P (s + k) l) → AllByRecursion (λ p. P p.store p.load) (table_pairs s rows)
-table_sound P s [] right = tt
-table_sound P s (row ∷ rows) right =
-    All-append (λ p. P p.store p.load) (row_pairs s 0 row) (table_pairs (s + 1) rows)
-    (All-weaker _ _ (λ p h. subst (λ n. P n p.load) (sym h.0) h.1) _
-    (row_sound (P s) s 0 row (λ k m. subst (P s) (sym (zero-add k)) (subst (λ n. P n k) (add-zero s) (right 0 k m)))))
-    (table_sound P (s + 1) rows (λ k l m. subst (λ n. P n l) (add_one_in s k) (right (suc k) l m)))
-
--- Every marked place of a table gives a pair.
-table_complete : (s : ℕ) (rows : List (List Bool)) (k l : ℕ) → Marked (get_or rows k []) l → Has (table_pairs s rows) (pair (s + k) l)
-table_complete s [] k l marked = absurd (true≢false (sym marked))
-table_complete s (row ∷ rows) zero l marked =
-    subst (λ n. Has (table_pairs s (row ∷ rows)) (pair n l)) (sym (add-zero s))
-    (has_append_left (row_pairs s 0 row) (table_pairs (s + 1) rows) (pair s l) (subst (λ n. Has (row_pairs s 0 row) (pair s n)) (zero-add l) (row_complete s 0 row l marked)))
-table_complete s (row ∷ rows) (suc k) l marked =
-    subst (λ n. Has (table_pairs s (row ∷ rows)) (pair n l)) (sym (add_one_in s k))
-    (has_append_right (row_pairs s 0 row) (table_pairs (s + 1) rows) (pair (s + 1 + k) l) (table_complete (s + 1) rows k l marked))
+-- The pair of a place of a row.
+pair_at : (s l : ℕ) → l < 128 → place_pair (0 + (128 * s + l)) ≡ pair s l
+pair_at s l within =
+    let store : (0 + (128 * s + l)) / 128 ≡ s = omega arith in
+    let load : (0 + (128 * s + l)) % 128 ≡ l = omega arith in
+    ap (λ k. pair k ((0 + (128 * s + l)) % 128)) store ∙ ap (pair s) load
 
 -- A right table lists exactly the attack pairs, in order.
-table_attacks : (ls : List Line) (rows : List (List Bool)) → RightTable ls rows → AttackPairs ls (table_pairs 0 rows)
-table_attacks ls rows right = record {
-  sound = table_sound (Attack ls) 0 rows (λ k l m. subst (λ n. Attack ls n l) (sym (zero-add k)) ((right k).only l m));
-  complete = λ p attack. subst (λ n. Has (table_pairs 0 rows) (pair n p.load)) (zero-add p.store) (table_complete 0 rows p.store p.load ((right p.store).all p.load attack));
-  ascending = table_ascends 0 rows;
-}
-
--- A list that has a place for each of them.
-pub listed_all : (ls : List Line) (rows : List (List Bool)) (before after : List Pair) (n : ℕ) → RightTable ls rows → n ≡ length (table_pairs 0 rows) → n ≤ length before → after ≡ table_pairs 0 rows ++ drop (length (table_pairs 0 rows)) before → Listed ls before (Ok n) after
-listed_all ls rows before after n right count room written =
-    let fits : leb (length (table_pairs 0 rows)) (length before) ≡ true = le-leb (length (table_pairs 0 rows)) (length before) (omega arith) in
+pub table_attacks : (ls : List Line) (rows : List (List Bool)) → RightTable ls rows → AttackPairs ls (table_pairs rows)
+table_attacks ls rows right =
+    let flat = flat_map (λ (row : List Bool). row) rows in
     record {
-      pairs = table_pairs 0 rows;
-      all = table_attacks ls rows right;
-      value = ap Ok count ∙ sym (cond-true (leb (length (table_pairs 0 rows)) (length before)) (Ok (length (table_pairs 0 rows))) (Err TooShort) fits);
-      list = written ∙ sym (cond-true (leb (length (table_pairs 0 rows)) (length before)) (table_pairs 0 rows ++ drop (length (table_pairs 0 rows)) before) before fits);
-    }
-
--- A list that has not.
-pub listed_none : (ls : List Line) (rows : List (List Bool)) (before : List Pair) (n : ℕ) → RightTable ls rows → n ≡ length (table_pairs 0 rows) → length before < n → Listed ls before (Err TooShort) before
-listed_none ls rows before n right count short =
-    let over : leb (length (table_pairs 0 rows)) (length before) ≡ false = lt-leb (length (table_pairs 0 rows)) (length before) (omega arith) in
-    record {
-      pairs = table_pairs 0 rows;
-      all = table_attacks ls rows right;
-      value = sym (cond-false (leb (length (table_pairs 0 rows)) (length before)) (Ok (length (table_pairs 0 rows))) (Err TooShort) over);
-      list = sym (cond-false (leb (length (table_pairs 0 rows)) (length before)) (table_pairs 0 rows ++ drop (length (table_pairs 0 rows)) before) before over);
+      sound = pairs_all (λ p. Attack ls p.store p.load) 0 flat (λ k m.
+          let place : 128 * (k / 128) + k % 128 ≡ k = omega arith in
+          subst (λ n. Attack ls (n / 128) (n % 128)) (sym (zero-add k))
+          ((right.right (k / 128)).only (k % 128) (sym (flat_at rows right.long (k / 128) (k % 128) (omega arith)) ∙ ap (λ n. get_or flat n false) place ∙ m)));
+      complete = λ p attack.
+          let marked = (right.right p.store).all p.load attack in
+          let within = in_row rows right.long p.store p.load marked in
+          subst (Contains (table_pairs rows)) (pair_at p.store p.load within)
+          (pairs_complete 0 flat (128 * p.store + p.load) (flat_at rows right.long p.store p.load within ∙ marked));
+      ascending = pairs_ascend 0 flat;
     }

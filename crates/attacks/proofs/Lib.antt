@@ -1,5 +1,5 @@
 pub mod Chained
 pub mod Complete
-pub mod Filling
-pub mod Marks
+pub mod Made
 pub mod Single
+pub mod Writing

@@ -8,7 +8,7 @@
 -- OneList             there is only one such list
 -- Listed              what listing them answers, and what the list handed in holds afterwards
 use Rattle.std.specs.Prelude.{◌≡◌, ℕ, ◌<◌, Bool, true, false, cond, ◌&&◌, ◌⊎◌, List, [], ◌∷◌, ◌++◌, length, drop, Some, None, Ok, Err, Option, Result, ◌==◌, nat_le}
-use Rattle.std.specs.List.{slice_get, ContainsAt as Has, AllByRecursion}
+use Rattle.std.specs.List.{slice_get, All, Contains}
 use Rattle.refusal.specs.declared.Refusal.{Refusal}
 use Rattle.refusal.specs.declared.Refusal.TheVariants.{TooShort}
 use Rattle.program.specs.declared.forms.Instruction.{Instruction}
@@ -66,11 +66,11 @@ Before p q = (p.store < q.store) ⊎ ((p.store ≡ q.store) × (p.load < q.load)
 
 abbrev pub Ascending : List Pair → Type 0
 Ascending [] = Unit {0}
-Ascending (p ∷ ps) = AllByRecursion (Before p) ps × Ascending ps
+Ascending (p ∷ ps) = All (Before p) ps × Ascending ps
 
 pub record AttackPairs (ls : List Line) (ps : List Pair) : Type 0 where
-  pub sound : AllByRecursion (λ p. Attack ls p.store p.load) ps
-  pub complete : (p : Pair) → Attack ls p.store p.load → Has ps p
+  pub sound : All (λ p. Attack ls p.store p.load) ps
+  pub complete : (p : Pair) → Attack ls p.store p.load → Contains ps p
   pub ascending : Ascending ps
 
 -- A list with a place for every pair takes them at its front, and its later places are as before. One with fewer is

@@ -15,8 +15,7 @@ impl fmt::Display for Pair {
     ghost output = { λ p. Some (pair_text p) };
 
     fn fmt<W: fmt::Write>(&self, f: &mut fmt::Formatter<W>) -> fmt::Result {
-        let store = self.store;
-        let load = self.load;
+        let Pair { store, load } = *self;
         write!(f, "{store} {load}")
     }
 }

@@ -40,18 +40,12 @@ impl Graph for CodePaths<'_> {
 pub fn is_store(program: &Program, number: usize) -> bool
     ensures { result ≡ has is_store (lines_of program.now) number }
 {
-    match program.line(number) {
-        Some(line) => matches!(line.instruction, Instruction::Store { .. }),
-        None => false,
-    }
+    program.line(number).is_some_and(|line| matches!(line.instruction, Instruction::Store { .. }))
 }
 
 // Whether there is a line of that number, and it is a load.
 pub fn is_load(program: &Program, number: usize) -> bool
     ensures { result ≡ has is_load (lines_of program.now) number }
 {
-    match program.line(number) {
-        Some(line) => matches!(line.instruction, Instruction::Load { .. }),
-        None => false,
-    }
+    program.line(number).is_some_and(|line| matches!(line.instruction, Instruction::Load { .. }))
 }

@@ -12,15 +12,6 @@ fn pair(store: usize, load: usize) -> Pair {
     Pair { store, load }
 }
 
-fn line(thread: u8, label: u8, next: u8, instruction: Instruction) -> Line {
-    Line {
-        thread,
-        label,
-        next,
-        instruction,
-    }
-}
-
 fn store(cell: u32) -> Instruction {
     Instruction::Store {
         address: Operand::Constant(cell),
@@ -51,10 +42,10 @@ fn program_of(heap: Global, lines: &[Line]) -> Result<Program, Fail> {
 // Two threads, each with a store and then a load of the other's cell.
 fn dekker() -> [Line; 4] {
     [
-        line(0, 0, 1, store(0)),
-        line(0, 1, 2, load(1)),
-        line(1, 0, 1, store(1)),
-        line(1, 1, 2, load(0)),
+        Line::new(0, 0, 1, store(0)),
+        Line::new(0, 1, 2, load(1)),
+        Line::new(1, 0, 1, store(1)),
+        Line::new(1, 1, 2, load(0)),
     ]
 }
 
@@ -104,7 +95,7 @@ fn threads_do_not_join(rt: HostRuntime) -> Result<(), Fail> {
     lists(
         &rt,
         rt.alloc(),
-        &[line(0, 0, 1, store(0)), line(1, 1, 2, load(1))],
+        &[Line::new(0, 0, 1, store(0)), Line::new(1, 1, 2, load(1))],
         0,
         [BLANK; 3],
     )
@@ -112,10 +103,10 @@ fn threads_do_not_join(rt: HostRuntime) -> Result<(), Fail> {
 
 #[test]
 fn a_fence_cuts_its_own_chain(rt: HostRuntime) -> Result<(), Fail> {
-    let first = line(0, 0, 1, store(0));
-    let fence = line(0, 1, 2, Instruction::Fence);
-    let around = line(0, 1, 2, PASSED);
-    let last = line(0, 2, 3, load(1));
+    let first = Line::new(0, 0, 1, store(0));
+    let fence = Line::new(0, 1, 2, Instruction::Fence);
+    let around = Line::new(0, 1, 2, PASSED);
+    let last = Line::new(0, 2, 3, load(1));
     let pairs = [pair(0, 3), BLANK, BLANK];
     lists(&rt, rt.alloc(), &[first, fence, last], 0, [BLANK; 3])?;
     lists(&rt, rt.alloc(), &[first, fence, around, last], 1, pairs)
@@ -124,10 +115,10 @@ fn a_fence_cuts_its_own_chain(rt: HostRuntime) -> Result<(), Fail> {
 // On the way round the loop, the load that stands first in the program comes last.
 #[test]
 fn a_loop_joins_a_store_to_every_load(rt: HostRuntime) -> Result<(), Fail> {
-    let first = line(0, 0, 1, load(1));
-    let back = line(0, 1, 0, store(0));
-    let on = line(0, 1, 2, store(0));
-    let last = line(0, 2, 0, load(1));
+    let first = Line::new(0, 0, 1, load(1));
+    let back = Line::new(0, 1, 0, store(0));
+    let on = Line::new(0, 1, 2, store(0));
+    let last = Line::new(0, 2, 0, load(1));
     let pairs = [pair(1, 0), pair(1, 2), BLANK];
     lists(
         &rt,
@@ -141,8 +132,8 @@ fn a_loop_joins_a_store_to_every_load(rt: HostRuntime) -> Result<(), Fail> {
 
 #[test]
 fn a_store_may_follow_itself(rt: HostRuntime) -> Result<(), Fail> {
-    let again = line(0, 0, 0, store(0));
-    let out = line(0, 0, 1, load(1));
+    let again = Line::new(0, 0, 0, store(0));
+    let out = Line::new(0, 0, 1, load(1));
     lists(
         &rt,
         rt.alloc(),

@@ -23,10 +23,8 @@ fn program_of(rt: &impl Print, heap: Global, lines: &[Line]) -> anyhow::Result<P
 }
 
 fn print_program(rt: &impl Print, program: &Program) -> anyhow::Result<()> {
-    for number in 0..program.len() {
-        if let Some(line) = program.line(number) {
-            println!(rt; "{number}: {line}")?;
-        }
+    for (number, line) in program.lines().iter().enumerate() {
+        println!(rt; "{number}: {line}")?;
     }
     Ok(())
 }
@@ -36,7 +34,7 @@ fn print_pairs(rt: &impl Print, program: &Program) -> anyhow::Result<()> {
     match attack_pairs(program, &mut list) {
         Ok(count) => {
             println!(rt; "{count} attack pairs")?;
-            for pair in list.iter().take(count) {
+            for pair in &list[..count] {
                 println!(rt; "{pair}")?;
             }
         }

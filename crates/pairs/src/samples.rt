@@ -1,14 +1,6 @@
 // The sample programs.
 use program::{Instruction, Line, Operand, Operation};
-
-fn line(thread: u8, label: u8, next: u8, instruction: Instruction) -> Line {
-    Line {
-        thread,
-        label,
-        next,
-        instruction,
-    }
-}
+use std::array;
 
 fn store(cell: u32, value: Operand) -> Instruction {
     Instruction::Store {
@@ -38,28 +30,28 @@ const ONE: Operand = Operand::Constant(1);
 
 pub(super) fn dekker() -> [Line; 4] {
     [
-        line(0, 0, 1, store(0, ONE)),
-        line(0, 1, 2, load(0, 1)),
-        line(1, 0, 1, store(1, ONE)),
-        line(1, 1, 2, load(0, 0)),
+        Line::new(0, 0, 1, store(0, ONE)),
+        Line::new(0, 1, 2, load(0, 1)),
+        Line::new(1, 0, 1, store(1, ONE)),
+        Line::new(1, 1, 2, load(0, 0)),
     ]
 }
 
 pub(super) fn dekker_fenced() -> [Line; 5] {
     [
-        line(0, 0, 1, store(0, ONE)),
-        line(0, 1, 2, Instruction::Fence),
-        line(0, 2, 3, load(0, 1)),
-        line(1, 0, 1, store(1, ONE)),
-        line(1, 1, 2, load(0, 0)),
+        Line::new(0, 0, 1, store(0, ONE)),
+        Line::new(0, 1, 2, Instruction::Fence),
+        Line::new(0, 2, 3, load(0, 1)),
+        Line::new(1, 0, 1, store(1, ONE)),
+        Line::new(1, 1, 2, load(0, 0)),
     ]
 }
 
 pub(super) fn looping() -> [Line; 3] {
     [
-        line(0, 0, 1, load(0, 1)),
-        line(0, 1, 2, count()),
-        line(0, 2, 0, store(0, Operand::Register(0))),
+        Line::new(0, 0, 1, load(0, 1)),
+        Line::new(0, 1, 2, count()),
+        Line::new(0, 2, 0, store(0, Operand::Register(0))),
     ]
 }
 
@@ -67,31 +59,27 @@ pub(super) fn looping() -> [Line; 3] {
 pub(super) fn branch(both: bool) -> [Line; 4] {
     let arm = if both { Instruction::Fence } else { count() };
     [
-        line(3, 0, 1, store(0, ONE)),
-        line(3, 1, 2, Instruction::Fence),
-        line(3, 1, 2, arm),
-        line(3, 2, 3, load(0, 1)),
+        Line::new(3, 0, 1, store(0, ONE)),
+        Line::new(3, 1, 2, Instruction::Fence),
+        Line::new(3, 1, 2, arm),
+        Line::new(3, 2, 3, load(0, 1)),
     ]
 }
 
 // Eight threads of sixteen lines: four times a store, a load, a fence and a sum. The last line is one too many.
 pub(super) fn full() -> [Line; 129] {
-    let mut lines = [line(0, 0, 0, Instruction::Fence); 129];
-    for thread in 0..8u8 {
-        for label in 0..16u8 {
-            let instruction = match label % 4 {
-                0 => store(0, ONE),
-                1 => load(0, 1),
-                2 => Instruction::Fence,
-                _ => count(),
-            };
-            lines[16 * thread as usize + label as usize] = line(
-                thread,
-                label,
-                label + 1,
-                instruction,
-            );
+    array::from_fn(|place| {
+        if place == 128 {
+            return Line::new(0, 0, 0, Instruction::Fence);
         }
-    }
-    lines
+        let thread = (place / 16) as u8;
+        let label = (place % 16) as u8;
+        let instruction = match label % 4 {
+            0 => store(0, ONE),
+            1 => load(0, 1),
+            2 => Instruction::Fence,
+            _ => count(),
+        };
+        Line::new(thread, label, label + 1, instruction)
+    })
 }

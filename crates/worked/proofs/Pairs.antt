@@ -1,11 +1,12 @@
 -- The attack pairs of dekker, as it stands and with a fence in thread 0.
 use Rattle.std.proofs.Common.{◌≡◌, ℕ, zero, suc, true, eqb, ◌⊎◌, List, [], ◌∷◌, Some, None, Option, sym, refl, ◌∙◌, subst, inl, inr, ⊎_elim, arith}
-use Rattle.std.specs.List.{slice_get, ContainsAt as Has}
+use Rattle.std.specs.List.{slice_get, Contains}
+use Rattle.std.proofs.lemmas.List.Elements.{All-from_recursion, All-nil}
 use Rattle.std.proofs.lemmas.Bool.{and_parts, eqb-true, true≢false}
 use Rattle.program.specs.declared.lines.Line.{Line}
 use Rattle.ledger.specs.Worked.{dekker}
 use Rattle.attacks.specs.declared.pair.Pair.{Pair}
-use Rattle.attacks.specs.Attacks.{Attack, AttackPairs, Path, behind, follows, has, is_fence, is_load, is_store, step, through}
+use Rattle.attacks.specs.Attacks.{Attack, AttackPairs, Before, Path, behind, follows, has, is_fence, is_load, is_store, step, through}
 use Rattle.attacks.specs.Tables.{pair}
 use Rattle.worked.specs.Table.{dekker_fenced}
 
@@ -50,19 +51,19 @@ dekker_load (suc (suc (suc zero))) so = inr refl
 dekker_load (suc (suc (suc (suc n)))) so = absurd (true≢false (sym so))
 
 -- Of a store and a load, those of different threads are no attack pair.
-dekker_all : (p : Pair) → Attack dekker p.store p.load → Has (pair 0 1 ∷ pair 2 3 ∷ []) p
+dekker_all : (p : Pair) → Attack dekker p.store p.load → Contains (pair 0 1 ∷ pair 2 3 ∷ []) p
 dekker_all p attack =
     ⊎_elim
-    (λ s0. ⊎_elim (λ l1. (0, omega arith, λ d. is_pair p 0 1 s0 l1)) (λ l3. absurd (apart dekker 0 3 (λ e. omega (arith, e)) s0 l3 attack.path)) (dekker_load p.load attack.load))
-    (λ s2. ⊎_elim (λ l1. absurd (apart dekker 2 1 (λ e. omega (arith, e)) s2 l1 attack.path)) (λ l3. (1, omega arith, λ d. is_pair p 2 3 s2 l3)) (dekker_load p.load attack.load))
+    (λ s0. ⊎_elim (λ l1. (0, omega arith, is_pair p 0 1 s0 l1)) (λ l3. absurd (apart dekker 0 3 (λ e. omega (arith, e)) s0 l3 attack.path)) (dekker_load p.load attack.load))
+    (λ s2. ⊎_elim (λ l1. absurd (apart dekker 2 1 (λ e. omega (arith, e)) s2 l1 attack.path)) (λ l3. (1, omega arith, is_pair p 2 3 s2 l3)) (dekker_load p.load attack.load))
     (dekker_store p.store attack.store)
 
 -- In dekker each thread's load directly follows its store.
 pub of_dekker : AttackPairs dekker (pair 0 1 ∷ pair 2 3 ∷ [])
 of_dekker = record {
-  sound = (record { store = refl; load = refl; path = step refl }, (record { store = refl; load = refl; path = step refl }, tt));
+  sound = All-from_recursion (λ p. Attack dekker p.store p.load) (pair 0 1 ∷ pair 2 3 ∷ []) (record { store = refl; load = refl; path = step refl }, (record { store = refl; load = refl; path = step refl }, tt));
   complete = dekker_all;
-  ascending = ((inl (omega arith), tt), (tt, tt));
+  ascending = (All-from_recursion (Before (pair 0 1)) (pair 2 3 ∷ []) (inl (omega arith), tt), (All-nil (Before (pair 2 3)), tt));
 }
 
 -- With the fence, the stores are the lines 0 and 3.
@@ -98,13 +99,17 @@ fenced_off is_s is_l (step {m} {n} so) = true≢false (sym (subst (λ k. follows
 fenced_off is_s is_l (through {m} {k} {n} path clear so) = true≢false (sym (behind_fence k (subst (λ j. follows dekker_fenced k j ≡ true) is_l so)) ∙ clear)
 
 -- That leaves thread 1's store and load.
-fenced_all : (p : Pair) → Attack dekker_fenced p.store p.load → Has (pair 3 4 ∷ []) p
+fenced_all : (p : Pair) → Attack dekker_fenced p.store p.load → Contains (pair 3 4 ∷ []) p
 fenced_all p attack =
     ⊎_elim
     (λ s0. ⊎_elim (λ l2. absurd (fenced_off s0 l2 attack.path)) (λ l4. absurd (apart dekker_fenced 0 4 (λ e. omega (arith, e)) s0 l4 attack.path)) (fenced_load p.load attack.load))
-    (λ s3. ⊎_elim (λ l2. absurd (apart dekker_fenced 3 2 (λ e. omega (arith, e)) s3 l2 attack.path)) (λ l4. (0, omega arith, λ d. is_pair p 3 4 s3 l4)) (fenced_load p.load attack.load))
+    (λ s3. ⊎_elim (λ l2. absurd (apart dekker_fenced 3 2 (λ e. omega (arith, e)) s3 l2 attack.path)) (λ l4. (0, omega arith, is_pair p 3 4 s3 l4)) (fenced_load p.load attack.load))
     (fenced_store p.store attack.store)
 
 -- Thread 1's load directly follows its store, as before.
 pub of_fenced : AttackPairs dekker_fenced (pair 3 4 ∷ [])
-of_fenced = record { sound = (record { store = refl; load = refl; path = step refl }, tt); complete = fenced_all; ascending = (tt, tt) }
+of_fenced = record {
+  sound = All-from_recursion (λ p. Attack dekker_fenced p.store p.load) (pair 3 4 ∷ []) (record { store = refl; load = refl; path = step refl }, tt);
+  complete = fenced_all;
+  ascending = (All-nil (Before (pair 3 4)), tt);
+}

@@ -1,18 +1,12 @@
-use Rattle.std.proofs.Common.{◌+◌, ◌<◌, ◌≤◌, [], length, get_or, drop, ap, ◌∙◌, arith, length-append}
-use Rattle.attacks.specs.Tables.{row_pairs, table_pairs}
-use Rattle.attacks.proofs.Marks.{table_left, table_left_none, row_length}
+use Rattle.std.proofs.Common.{sym, ◌∙◌, rules}
+use Rattle.std.specs.List.{flat_map}
+use Rattle.std.proofs.lemmas.Iterator.{YieldsList-from_slice}
+use Rattle.std.proofs.lemmas.Iterator.Consumers.{YieldsList-from_filter, count_from_yields_List}
+use Rattle.attacks.proofs.Writing.{marked_count}
 use Rattle.attacks.proofs.listing.count_marks.Goals as goal
-
-pub loop-row-preserved : goal.loop-row-preserved
-loop-row-preserved c =
-    let s = c.loop-row.row-index in
-    let table = c.args.table.now in
-    let within : s < length table = omega arith in
-    let left = ap length (table_left s table within) ∙ length-append (row_pairs s 0 (get_or table s [])) (table_pairs (s + 1) (drop (s + 1) table)) in
-    (omega arith, omega (arith, left, row_length s 0 0 (get_or table s []), c.count_row-count.ensures.value))
 
 pub returns : goal.returns
 returns c =
-    let table = c.args.table.now in
-    let past : length table ≤ c.loop-row.row-index = omega arith in
-    omega (arith, ap length (table_left_none c.loop-row.row-index table past))
+    let flat = flat_map (λ row. row) c.args.table.now in
+    count_from_yields_List c.filter.result _ c.count.ensures.ran (YieldsList-from_filter _ (λ b. b) (YieldsList-from_slice flat (cc)) c.filter.ensures.closure (λ x b q k. search rules))
+    ∙ sym (marked_count 0 flat)

@@ -1,7 +1,7 @@
-use Rattle.std.proofs.Common.{drop}
+use Rattle.std.proofs.Common.{length}
 use Rattle.attacks.specs.Tables.{table_pairs}
-use Rattle.attacks.proofs.Marks.{Written}
+use Rattle.attacks.proofs.Writing.{Written}
 use Rattle.attacks.proofs.listing.write_pairs.Given as goal
 
-abbrev pub invariant-loop-store : goal.invariant-loop-store
-invariant-loop-store l = Written 0 l.initial.list (table_pairs 0 l.table) l.at l.list (table_pairs l.store (drop l.store l.table))
+abbrev pub invariant-loop-at : goal.invariant-loop-at
+invariant-loop-at l = Written (table_pairs l.table) l.initial.list (length l.yielded) l.list
