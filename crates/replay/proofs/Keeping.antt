@@ -10,7 +10,7 @@ use Rattle.replay.specs.Names.{source_of}
 use Rattle.replay.specs.Views.{noted_of}
 use Rattle.replay.specs.declared.actions.Access.TheVariants.{Nothing}
 use Rattle.replay.specs.declared.actions.Action.{Action}
-use Rattle.replay.specs.declared.names.Source.{Source}
+use Rattle.replay.specs.declared.names.Name.{Name}
 
 -- what a list is taken to hold past its end
 abbrev pub blank : Action
@@ -62,7 +62,7 @@ module _ (c : ℕ) (xs : List Action) (i : ℕ) (d : Action) where
   youngest_done so_far past = ap (λ o. else_this o so_far) (at_drop_all (youngest_left i c) (map noted_of xs) i (omega (arith, length-map xs noted_of)))
 
 -- An action that is given what it overwrote, among the others.
-pub overwritten : (xs : List Action) (p : ℕ) (x : Action) (s : Source) → p < length xs → x ≡ get_or xs p x → map noted_of (set xs p (record { line = x.line; value = x.value; access = x.access; over = Some s })) ≡ overwriting (source_of s) p (map noted_of xs)
+pub overwritten : (xs : List Action) (p : ℕ) (x : Action) (s : Option Name) → p < length xs → x ≡ get_or xs p x → map noted_of (set xs p (record { line = x.line; value = x.value; access = x.access; over = Some s })) ≡ overwriting (source_of s) p (map noted_of xs)
 overwritten xs p x s within is =
     map-set noted_of xs p (record { line = x.line; value = x.value; access = x.access; over = Some s })
     ∙ ap (λ n. set (map noted_of xs) p (record { action = n.action; over = Some (source_of s) })) (ap noted_of is ∙ sym (get_or-map noted_of xs p x nothing_noted within))

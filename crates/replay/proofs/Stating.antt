@@ -1,5 +1,5 @@
 -- The views of a State: what they tell of one thread, and what they become where a thread or a cell is changed.
-use Rattle.std.proofs.Common.{◌≡◌, ℕ, zero, suc, ◌+◌, ◌<◌, ◌≤◌, Bool, List, [], ◌∷◌, ◌++◌, map, length, get_or, take, set, replicate, vec_items, sym, refl, ap, ◌∙◌, ⊎_elim, arith}
+use Rattle.std.proofs.Common.{◌≡◌, ℕ, zero, suc, ◌+◌, ◌<◌, ◌≤◌, Bool, List, [], ◌∷◌, ◌++◌, map, length, get_or, take, set, replicate, None, vec_items, sym, refl, ap, ◌∙◌, ⊎_elim, arith}
 use mathlib.Core.Path.{fun_ext}
 use Rattle.std.proofs.lemmas.List.{get_or-map, get_or-set_other, get_or-set_same, length-map, map_push, map-set, replicate_more, set-get_or, take_more_set}
 use Rattle.program.specs.declared.lines.Line.{Line}
@@ -12,7 +12,6 @@ use Rattle.present.specs.Data.{Noted, Present, fresh, untouched}
 use Rattle.replay.specs.Views.{has_bit, local_of, noted_in, noted_of, present_of, read_of}
 use Rattle.replay.specs.declared.actions.Action.{Action}
 use Rattle.replay.specs.declared.actions.Cell.{Cell}
-use Rattle.replay.specs.declared.names.Source.TheVariants.{Initial}
 use Rattle.replay.specs.declared.state.State.{State}
 use Rattle.replay.specs.declared.thread.Thread.{Thread}
 use Rattle.replay.proofs.Bits.{no_bit}
@@ -81,7 +80,7 @@ same_everywhere ys n d all = fun_ext (λ u. ap (λ l. get_or l u d) all ∙ getD
 
 -- a cell at the start
 abbrev pub blank : Cell
-blank = record { value = 0; last = Initial }
+blank = record { value = 0; last = None }
 
 -- Threads at their start, untouched cells and no thread that delayed are the data at the start.
 pub fresh_from : (ts : List Thread) (n : ℕ) → map local_of ts ≡ replicate n start_local → map noted_in ts ≡ replicate n [] → ◌≡◌ {A = Present} (record { locals = λ t. get_or (map local_of ts) t start_local; memory = λ c. get_or (map read_of (replicate 16 blank)) c untouched; noted = λ t. get_or (map noted_in ts) t []; delayed = λ t. has_bit t 0 }) fresh

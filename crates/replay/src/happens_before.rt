@@ -29,8 +29,8 @@ impl Action {
     fn overwrote(self, source: Source) -> bool
         ensures { result ≡ over_source (source_of source) (noted_of self).action.access (noted_of self).over }
     {
-        match (self.access, self.over) {
-            (Access::Stores { .. }, Some(over)) => over.same(source),
+        match self.access {
+            Access::Stores { .. } => self.over == Some(source),
             _ => false,
         }
     }
@@ -40,10 +40,7 @@ impl Action {
         ensures { result ≡ reads_from (name_of name) (noted_of self).action.access }
     {
         match self.access {
-            Access::Loads {
-                source: Source::From(store),
-                ..
-            } => store.same(name),
+            Access::Loads { source, .. } => source == Some(name),
             _ => false,
         }
     }
@@ -72,7 +69,7 @@ impl State {
             return false;
         };
         from.precedes(to)
-            || second.overwrote(Source::From(from))
+            || second.overwrote(Some(from))
             || second.reads_from(from)
             || first.overwritten_by(second)
     }

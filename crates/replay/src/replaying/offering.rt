@@ -123,7 +123,7 @@ impl<B: StoreBuffer> Replay<B> {
         ensures { Forwarded (present_of self.now.state) thread cell result }
     {
         match self.state.youngest_left(thread, cell) {
-            Some(position) => Ok(Source::From(Name { thread, position })),
+            Some(position) => Ok(Some(Name { thread, position })),
             None => Err(Refusal::StoreNotWaiting),
         }
     }

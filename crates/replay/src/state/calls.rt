@@ -12,7 +12,7 @@ ghost use Rattle.replay.specs.States.{next_line, noted_ran};
 ghost use Rattle.replay.specs.Views.{noted_of, present_of, read_of};
 
 use super::super::actions::{Action, Cell};
-use super::super::names::{Name, Source};
+use super::super::names::Name;
 use super::super::thread::Thread;
 use super::State;
 use program::{Line, Operand, Program};
@@ -27,7 +27,7 @@ const MOST: usize = 256;
 // a cell at the start
 const UNTOUCHED: Cell = Cell {
     value: 0,
-    last: Source::Initial,
+    last: None,
 };
 
 impl State {
@@ -178,7 +178,7 @@ impl State {
         self.threads[name.thread].overwrite(name.position, before);
         self.cells[cell] = Cell {
             value,
-            last: Source::From(name),
+            last: Some(name),
         };
     }
 }
