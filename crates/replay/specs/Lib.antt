@@ -1,6 +1,5 @@
 pub mod GraphLaws
 pub mod Names
-pub mod Numberings
 pub mod Offers
 pub mod Performed
 pub mod States

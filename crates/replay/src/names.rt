@@ -1,7 +1,7 @@
 // How an action is named, and where a load has its value from.
 
 // An action, by its thread and its position among that thread's actions, counted from 0.
-#[derive(Clone, Copy, PartialEq, Eq, Debug)]
+#[derive(Clone, Copy, PartialEq, Eq, Debug, Default)]
 pub struct Name {
     pub thread: usize,
     pub position: usize,

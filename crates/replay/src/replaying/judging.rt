@@ -5,12 +5,11 @@ ghost use Rattle.replay.specs.Verdicts.{JudgedHeld};
 ghost use Rattle.replay.specs.Views.{held};
 
 use super::super::names::Name;
+use super::super::state::THREADS;
 use super::super::verdicts::Verdict;
 use super::Replay;
 use buffers::StoreBuffer;
 use refusal::Refusal;
-
-const THREADS: usize = 8;
 
 impl<B: StoreBuffer> Replay<B> {
     // Judges the actions so far, and lists their order or a ring of them at the front of the list; its later places are as before.
@@ -28,11 +27,6 @@ impl<B: StoreBuffer> Replay<B> {
     fn store_waits(&self) -> bool
         ensures { result ≡ not (nothing_waits (B.StoreBuffer.lists self.now.buffer)) }
     {
-        for thread in 0..THREADS {
-            if self.buffer.waiting(thread) > 0 {
-                return true;
-            }
-        }
-        false
+        (0..THREADS).any(|thread| self.buffer.waiting(thread) > 0)
     }
 }

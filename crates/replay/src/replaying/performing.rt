@@ -5,15 +5,13 @@ ghost use Rattle.replay.specs.Performed.{Answered, JudgedAs};
 ghost use Rattle.replay.specs.Truth.{VerdictsTrue};
 ghost use Rattle.replay.specs.Views.{held};
 
+use super::super::actions::MOST;
 use super::super::calls::{Answer, Call};
 use super::super::names::Name;
 use super::Replay;
 use buffers::StoreBuffer;
 use program::Program;
 use std::alloc::{AllocError, Global};
-
-// the most actions that a run has
-const MOST: usize = 256;
 
 // what stands in a list before it is written
 const BLANK: Name = Name {
