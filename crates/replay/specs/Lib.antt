@@ -2,6 +2,7 @@ pub mod GraphLaws
 pub mod Names
 pub mod Offers
 pub mod Performed
+pub mod Standings
 pub mod States
 pub mod Texts
 pub mod Truth

@@ -1,8 +1,8 @@
 // Judging what was replayed.
 ghost use Rattle.std.specs.Prelude.{◌≡◌, not};
 ghost use Rattle.buffers.specs.Lists.{nothing_waits};
+ghost use Rattle.replay.specs.Standings.{standing};
 ghost use Rattle.replay.specs.Verdicts.{JudgedHeld};
-ghost use Rattle.replay.specs.Views.{held};
 
 use super::super::names::Name;
 use super::super::state::THREADS;
@@ -15,7 +15,7 @@ impl<B: StoreBuffer> Replay<B> {
     // Judges the actions so far, and lists their order or a ring of them at the front of the list; its later places are as before.
     // Refused while a store waits, then where the list has fewer places than there are actions; the list is then as before.
     pub fn judge(&self, list: &mut [Name]) -> Result<Verdict, Refusal>
-        ensures { JudgedHeld (held (B.StoreBuffer.lists self.now.buffer) self.now.state) list.old result list.new }
+        ensures { JudgedHeld (standing B.StoreBuffer.rules B.StoreBuffer.lists self.now).held list.old result list.new }
     {
         if self.store_waits() {
             return Err(Refusal::StoreWaits);

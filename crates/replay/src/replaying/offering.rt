@@ -1,10 +1,9 @@
 // Offering moves: runs of instructions, and drains.
 ghost use Rattle.std.specs.Prelude.{◌≡◌, ℕ, None};
-ghost use Rattle.program.specs.Programs.{lines_of};
 ghost use Rattle.program.specs.declared.forms.Instruction.TheVariants.{Assert, Fence, Load, Store};
 ghost use Rattle.ledger.specs.declared.moves.Move.TheVariants.{Drain, Run};
-ghost use Rattle.replay.specs.Offers.{Acted, ActedAlone, Offered};
-ghost use Rattle.replay.specs.Views.{held};
+ghost use Rattle.replay.specs.Offers.{ActedAlone};
+ghost use Rattle.replay.specs.Standings.{ActedOn, Moved, standing};
 
 use super::super::actions::{Access, Action, CELLS};
 use super::super::names::Name;
@@ -33,9 +32,7 @@ impl<B: StoreBuffer> Replay<B> {
     // Offers a move, and answers the value loaded, stored, drained, computed or asserted, 0 for a fence. Refused where a test fails, and
     // then nothing is changed.
     pub fn offer(&mut self, offered: Move) -> Result<u32, Refusal>
-        ensures answer { Offered (B.StoreBuffer.rules self.old.buffer) (lines_of self.old.program) (held (B.StoreBuffer.lists self.old.buffer) self.old.state) offered result (held (B.StoreBuffer.lists self.new.buffer) self.new.state) }
-        ensures rules { B.StoreBuffer.rules self.new.buffer ≡ B.StoreBuffer.rules self.old.buffer }
-        ensures program { lines_of self.new.program ≡ lines_of self.old.program }
+        ensures { Moved (standing B.StoreBuffer.rules B.StoreBuffer.lists self.old) offered result (standing B.StoreBuffer.rules B.StoreBuffer.lists self.new) }
     {
         match offered {
             Move::Run {
@@ -48,9 +45,7 @@ impl<B: StoreBuffer> Replay<B> {
 
     // The thread runs the instruction of that number.
     fn run(&mut self, thread: usize, instruction: usize) -> Result<u32, Refusal>
-        ensures answer { Offered (B.StoreBuffer.rules self.old.buffer) (lines_of self.old.program) (held (B.StoreBuffer.lists self.old.buffer) self.old.state) (Run thread instruction) result (held (B.StoreBuffer.lists self.new.buffer) self.new.state) }
-        ensures rules { B.StoreBuffer.rules self.new.buffer ≡ B.StoreBuffer.rules self.old.buffer }
-        ensures program { lines_of self.new.program ≡ lines_of self.old.program }
+        ensures { Moved (standing B.StoreBuffer.rules B.StoreBuffer.lists self.old) (Run thread instruction) result (standing B.StoreBuffer.rules B.StoreBuffer.lists self.new) }
     {
         let turn = self.state.turn(&self.program, thread, instruction)?;
         if !self.buffer.free_to_step(turn.thread) {
@@ -64,9 +59,7 @@ impl<B: StoreBuffer> Replay<B> {
 
     // The action of an instruction, after the tests of its form. A store goes into the buffer.
     fn act(&mut self, turn: Turn) -> Result<Action, Refusal>
-        ensures action { Acted (held (B.StoreBuffer.lists self.old.buffer) self.old.state) turn.thread turn.number turn.line.instruction result (held (B.StoreBuffer.lists self.new.buffer) self.new.state) }
-        ensures rules { B.StoreBuffer.rules self.new.buffer ≡ B.StoreBuffer.rules self.old.buffer }
-        ensures program { lines_of self.new.program ≡ lines_of self.old.program }
+        ensures { ActedOn (standing B.StoreBuffer.rules B.StoreBuffer.lists self.old) turn.thread turn.number turn.line.instruction result (standing B.StoreBuffer.rules B.StoreBuffer.lists self.new) }
     {
         match turn.line.instruction {
             Instruction::Load { address, .. } => self.load(turn, address),
@@ -89,7 +82,7 @@ impl<B: StoreBuffer> Replay<B> {
     // A load takes the thread's newest waiting store to the cell, or the cell itself if there is none. The source of a value that the
     // buffer tells is the youngest store that the actions leave waiting.
     fn load(&self, turn: Turn, address: Operand) -> Result<Action, Refusal>
-        ensures { (register : ℕ) → ActedAlone (held (B.StoreBuffer.lists self.now.buffer) self.now.state) turn.thread turn.number (Load register address) result }
+        ensures { (register : ℕ) → ActedAlone (standing B.StoreBuffer.rules B.StoreBuffer.lists self.now).held turn.thread turn.number (Load register address) result }
     {
         let own = self.state.whose(turn);
         let cell = own.operand(address) as usize;
@@ -107,9 +100,7 @@ impl<B: StoreBuffer> Replay<B> {
 
     // A store goes into the buffer.
     fn store(&mut self, turn: Turn, address: Operand, value: Operand) -> Result<Action, Refusal>
-        ensures action { Acted (held (B.StoreBuffer.lists self.old.buffer) self.old.state) turn.thread turn.number (Store address value) result (held (B.StoreBuffer.lists self.new.buffer) self.new.state) }
-        ensures rules { B.StoreBuffer.rules self.new.buffer ≡ B.StoreBuffer.rules self.old.buffer }
-        ensures program { lines_of self.new.program ≡ lines_of self.old.program }
+        ensures { ActedOn (standing B.StoreBuffer.rules B.StoreBuffer.lists self.old) turn.thread turn.number (Store address value) result (standing B.StoreBuffer.rules B.StoreBuffer.lists self.new) }
     {
         let own = self.state.whose(turn);
         let cell = own.operand(address) as usize;
@@ -120,7 +111,7 @@ impl<B: StoreBuffer> Replay<B> {
 
     // A fence only tests that no store of the thread waits.
     fn fence(&self, turn: Turn) -> Result<Action, Refusal>
-        ensures { ActedAlone (held (B.StoreBuffer.lists self.now.buffer) self.now.state) turn.thread turn.number Fence result }
+        ensures { ActedAlone (standing B.StoreBuffer.rules B.StoreBuffer.lists self.now).held turn.thread turn.number Fence result }
     {
         if self.buffer.waiting(turn.thread) > 0 {
             return Err(Refusal::FenceBeforeDrain);
@@ -130,7 +121,7 @@ impl<B: StoreBuffer> Replay<B> {
 
     // An assert only tests that its operand is not 0.
     fn assert(&self, turn: Turn, condition: Operand) -> Result<Action, Refusal>
-        ensures { ActedAlone (held (B.StoreBuffer.lists self.now.buffer) self.now.state) turn.thread turn.number (Assert condition) result }
+        ensures { ActedAlone (standing B.StoreBuffer.rules B.StoreBuffer.lists self.now).held turn.thread turn.number (Assert condition) result }
     {
         let value = self.state.whose(turn).operand(condition);
         if value == 0 {
@@ -141,9 +132,7 @@ impl<B: StoreBuffer> Replay<B> {
 
     // The thread's oldest waiting store to the cell goes to memory.
     fn drain(&mut self, thread: usize, cell: usize) -> Result<u32, Refusal>
-        ensures answer { Offered (B.StoreBuffer.rules self.old.buffer) (lines_of self.old.program) (held (B.StoreBuffer.lists self.old.buffer) self.old.state) (Drain thread cell) result (held (B.StoreBuffer.lists self.new.buffer) self.new.state) }
-        ensures rules { B.StoreBuffer.rules self.new.buffer ≡ B.StoreBuffer.rules self.old.buffer }
-        ensures program { lines_of self.new.program ≡ lines_of self.old.program }
+        ensures { Moved (standing B.StoreBuffer.rules B.StoreBuffer.lists self.old) (Drain thread cell) result (standing B.StoreBuffer.rules B.StoreBuffer.lists self.new) }
     {
         let own = self.state.thread(thread).ok_or(Refusal::ThreadOutOfRange)?;
         if cell >= CELLS {

@@ -1,4 +1,4 @@
-use Rattle.std.proofs.Common.{◌≡◌, ℕ, ◌<◌, true, not, ltb, None, Ok, Err, sym, ap, ◌∙◌, subst}
+use Rattle.std.proofs.Common.{◌≡◌, ℕ, ◌<◌, true, not, ltb, None, Ok, Err, sym, refl, ap, ◌∙◌, subst}
 use Rattle.std.proofs.lemmas.Result.{err_from_is_err_and}
 use Rattle.refusal.specs.declared.Refusal.TheVariants.{ThreadNotFree}
 use Rattle.program.specs.Programs.{lines_of}
@@ -12,15 +12,19 @@ use Rattle.replay.specs.Views.{held, noted_of, present_of}
 use Rattle.replay.proofs.Steps.{found_line, offered_refused, offered_run, ran_same, refused_early}
 use Rattle.replay.proofs.replaying.Replay.run.Goals as goal
 
-pub returns-in_err-turn-clause-answer : goal.returns-in_err-turn-clause-answer
-returns-in_err-turn-clause-answer g c =
+pub returns-in_err-turn : goal.returns-in_err-turn
+returns-in_err-turn g c =
     let rules = g.B.StoreBuffer.rules c.args.self.now.buffer in
     let ls = lines_of c.args.self.now.program in
     let h = held (g.B.StoreBuffer.lists c.args.self.now.buffer) c.args.self.now.state in
     let r = c.in_err-turn.field-0.0 in
     let tested = refused_early rules ls h c.args.thread c.args.instruction r c.in_err-turn.ensures in
     let p = err_from_is_err_and c.from_residual.result c.from_residual.ensures.1 in
-    subst (λ o. Offered rules ls h (Run c.args.thread c.args.instruction) o h) (sym (p.1 ∙ ap Err p.2)) (offered_refused rules ls h (Run c.args.thread c.args.instruction) r tested)
+    record {
+      answer = subst (λ o. Offered rules ls h (Run c.args.thread c.args.instruction) o h) (sym (p.1 ∙ ap Err p.2)) (offered_refused rules ls h (Run c.args.thread c.args.instruction) r tested);
+      rules = refl;
+      program = refl;
+    }
 
 pub ran-requires : goal.ran-requires
 ran-requires g c =
@@ -31,8 +35,8 @@ ran-requires g c =
     let found = found_line rules ls h turn.thread turn.number turn.line c.in_ok-turn.ensures.line in
     subst (λ (k : Held). how_many_in k.own < 256) (sym c.in_ok-action.ensures.action.held) found.room
 
-pub returns-clause-answer : goal.returns-clause-answer
-returns-clause-answer g c =
+pub returns : goal.returns
+returns g c =
     let rules = g.B.StoreBuffer.rules c.args.self.now.buffer in
     let ls = lines_of c.args.self.now.program in
     let h = held (g.B.StoreBuffer.lists c.args.self.now.buffer) c.args.self.now.state in
@@ -53,4 +57,8 @@ returns-clause-answer g c =
     subst (λ (k : Held). Offered rules ls h (Run t n) (Ok c.in_ok-action.action.value) k) (sym whole)
     (subst (λ (v : ℕ). Offered rules ls h (Run t n) (Ok v) (ran_with h t line a)) (sym (ap (λ x. x.action.value) acted.alone.1)) (offered_run rules ls h t n line found.there tested)) in
     let m : ◌≡◌ {A = Move} (Run t n) (Run c.args.thread c.args.instruction) = λ i. Run (c.in_ok-turn.ensures.thread i) (c.in_ok-turn.ensures.number i) in
-    subst (λ k. Offered rules ls h k (Ok c.in_ok-action.action.value) (held (g.B.StoreBuffer.lists c.act.new.self.buffer) c.ran.new.self)) m here
+    record {
+      answer = subst (λ k. Offered rules ls h k (Ok c.in_ok-action.action.value) (held (g.B.StoreBuffer.lists c.act.new.self.buffer) c.ran.new.self)) m here;
+      rules = c.in_ok-action.ensures.rules;
+      program = c.in_ok-action.ensures.program;
+    }
