@@ -11,7 +11,7 @@ use Rattle.program.specs.Programs.{lines_of}
 use Rattle.program.specs.declared.forms.Instruction.{Instruction}
 use Rattle.program.specs.declared.lines.Line.{Line}
 use Rattle.buffers.specs.Laws.{Rules}
-use Rattle.buffers.specs.Lists.{Lists}
+use Rattle.buffers.specs.declared.meaning.StoreBuffer.{Ghosts}
 use Rattle.ledger.specs.declared.moves.Move.{Move}
 use Rattle.present.specs.Data.{Held, fresh_held}
 use Rattle.replay.specs.Offers.{Acted, Offered}
@@ -27,9 +27,9 @@ pub record Standing : Type 0 where
   pub lines : List Line
   pub held : Held
 
--- by the rules and the lists of its buffer
-abbrev pub standing : {B : Type 0} → (B → Rules) → (B → Lists) → Replay B → Standing
-standing rules lists r = record { rules = rules r.buffer; lines = lines_of r.program; held = held (lists r.buffer) r.state }
+-- by what its kind of buffer means
+abbrev pub standing : {B : Type 0} → Ghosts B → Replay B → Standing
+standing kind r = record { rules = kind.rules r.buffer; lines = lines_of r.program; held = held (kind.lists r.buffer) r.state }
 
 pub record Fresh (kind : Rules) (ls : List Line) (s : Standing) : Type 0 where
   pub held : s.held ≡ fresh_held

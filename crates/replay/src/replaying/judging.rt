@@ -15,7 +15,7 @@ impl<B: StoreBuffer> Replay<B> {
     // Judges the actions so far, and lists their order or a ring of them at the front of the list; its later places are as before.
     // Refused while a store waits, then where the list has fewer places than there are actions; the list is then as before.
     pub fn judge(&self, list: &mut [Name]) -> Result<Verdict, Refusal>
-        ensures { JudgedHeld (standing B.StoreBuffer.rules B.StoreBuffer.lists self.now).held list.old result list.new }
+        ensures { JudgedHeld (standing B.StoreBuffer self.now).held list.old result list.new }
     {
         if self.store_waits() {
             return Err(Refusal::StoreWaits);

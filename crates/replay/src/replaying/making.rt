@@ -14,7 +14,7 @@ impl<B: StoreBuffer> Replay<B> {
     pub fn new(heap: Global, program: Program, buffer: B) -> Result<Replay<B>, AllocError>
     where
         B: Drop,
-        ensures { IfOk result (λ replay. Fresh (B.StoreBuffer.rules buffer) (lines_of program) (standing B.StoreBuffer.rules B.StoreBuffer.lists replay)) }
+        ensures { IfOk result (λ replay. Fresh (B.StoreBuffer.rules buffer) (lines_of program) (standing B.StoreBuffer replay)) }
     {
         let state = State::new(heap)?;
         let mut buffer = buffer;
@@ -28,7 +28,7 @@ impl<B: StoreBuffer> Replay<B> {
 
     // Goes back to the start: labels, registers and cells are 0, and there is no action and no waiting store.
     pub fn start_over(&mut self)
-        ensures { let before = standing B.StoreBuffer.rules B.StoreBuffer.lists self.old in Fresh before.rules before.lines (standing B.StoreBuffer.rules B.StoreBuffer.lists self.new) }
+        ensures { let before = standing B.StoreBuffer self.old in Fresh before.rules before.lines (standing B.StoreBuffer self.new) }
     {
         self.buffer.clear();
         self.state.clear();

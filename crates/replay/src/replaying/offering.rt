@@ -32,7 +32,7 @@ impl<B: StoreBuffer> Replay<B> {
     // Offers a move, and answers the value loaded, stored, drained, computed or asserted, 0 for a fence. Refused where a test fails, and
     // then nothing is changed.
     pub fn offer(&mut self, offered: Move) -> Result<u32, Refusal>
-        ensures { Moved (standing B.StoreBuffer.rules B.StoreBuffer.lists self.old) offered result (standing B.StoreBuffer.rules B.StoreBuffer.lists self.new) }
+        ensures { Moved (standing B.StoreBuffer self.old) offered result (standing B.StoreBuffer self.new) }
     {
         match offered {
             Move::Run {
@@ -45,7 +45,7 @@ impl<B: StoreBuffer> Replay<B> {
 
     // The thread runs the instruction of that number.
     fn run(&mut self, thread: usize, instruction: usize) -> Result<u32, Refusal>
-        ensures { Moved (standing B.StoreBuffer.rules B.StoreBuffer.lists self.old) (Run thread instruction) result (standing B.StoreBuffer.rules B.StoreBuffer.lists self.new) }
+        ensures { Moved (standing B.StoreBuffer self.old) (Run thread instruction) result (standing B.StoreBuffer self.new) }
     {
         let turn = self.state.turn(&self.program, thread, instruction)?;
         if !self.buffer.free_to_step(turn.thread) {
@@ -59,7 +59,7 @@ impl<B: StoreBuffer> Replay<B> {
 
     // The action of an instruction, after the tests of its form. A store goes into the buffer.
     fn act(&mut self, turn: Turn) -> Result<Action, Refusal>
-        ensures { ActedOn (standing B.StoreBuffer.rules B.StoreBuffer.lists self.old) turn.thread turn.number turn.line.instruction result (standing B.StoreBuffer.rules B.StoreBuffer.lists self.new) }
+        ensures { ActedOn (standing B.StoreBuffer self.old) turn.thread turn.number turn.line.instruction result (standing B.StoreBuffer self.new) }
     {
         match turn.line.instruction {
             Instruction::Load { address, .. } => self.load(turn, address),
@@ -82,7 +82,7 @@ impl<B: StoreBuffer> Replay<B> {
     // A load takes the thread's newest waiting store to the cell, or the cell itself if there is none. The source of a value that the
     // buffer tells is the youngest store that the actions leave waiting.
     fn load(&self, turn: Turn, address: Operand) -> Result<Action, Refusal>
-        ensures { (register : ℕ) → ActedAlone (standing B.StoreBuffer.rules B.StoreBuffer.lists self.now).held turn.thread turn.number (Load register address) result }
+        ensures { (register : ℕ) → ActedAlone (standing B.StoreBuffer self.now).held turn.thread turn.number (Load register address) result }
     {
         let own = self.state.whose(turn);
         let cell = own.operand(address) as usize;
@@ -100,7 +100,7 @@ impl<B: StoreBuffer> Replay<B> {
 
     // A store goes into the buffer.
     fn store(&mut self, turn: Turn, address: Operand, value: Operand) -> Result<Action, Refusal>
-        ensures { ActedOn (standing B.StoreBuffer.rules B.StoreBuffer.lists self.old) turn.thread turn.number (Store address value) result (standing B.StoreBuffer.rules B.StoreBuffer.lists self.new) }
+        ensures { ActedOn (standing B.StoreBuffer self.old) turn.thread turn.number (Store address value) result (standing B.StoreBuffer self.new) }
     {
         let own = self.state.whose(turn);
         let cell = own.operand(address) as usize;
@@ -111,7 +111,7 @@ impl<B: StoreBuffer> Replay<B> {
 
     // A fence only tests that no store of the thread waits.
     fn fence(&self, turn: Turn) -> Result<Action, Refusal>
-        ensures { ActedAlone (standing B.StoreBuffer.rules B.StoreBuffer.lists self.now).held turn.thread turn.number Fence result }
+        ensures { ActedAlone (standing B.StoreBuffer self.now).held turn.thread turn.number Fence result }
     {
         if self.buffer.waiting(turn.thread) > 0 {
             return Err(Refusal::FenceBeforeDrain);
@@ -121,7 +121,7 @@ impl<B: StoreBuffer> Replay<B> {
 
     // An assert only tests that its operand is not 0.
     fn assert(&self, turn: Turn, condition: Operand) -> Result<Action, Refusal>
-        ensures { ActedAlone (standing B.StoreBuffer.rules B.StoreBuffer.lists self.now).held turn.thread turn.number (Assert condition) result }
+        ensures { ActedAlone (standing B.StoreBuffer self.now).held turn.thread turn.number (Assert condition) result }
     {
         let value = self.state.whose(turn).operand(condition);
         if value == 0 {
@@ -132,7 +132,7 @@ impl<B: StoreBuffer> Replay<B> {
 
     // The thread's oldest waiting store to the cell goes to memory.
     fn drain(&mut self, thread: usize, cell: usize) -> Result<u32, Refusal>
-        ensures { Moved (standing B.StoreBuffer.rules B.StoreBuffer.lists self.old) (Drain thread cell) result (standing B.StoreBuffer.rules B.StoreBuffer.lists self.new) }
+        ensures { Moved (standing B.StoreBuffer self.old) (Drain thread cell) result (standing B.StoreBuffer self.new) }
     {
         let own = self.state.thread(thread).ok_or(Refusal::ThreadOutOfRange)?;
         if cell >= CELLS {

@@ -41,7 +41,7 @@ pub fn perform<B: StoreBuffer + Drop>(
 impl<B: StoreBuffer> Replay<B> {
     // Performs one call.
     fn answer(&mut self, heap: Global, call: Call) -> Result<Answer, AllocError>
-        ensures { IfOk result (λ answer. AnsweredOn (standing B.StoreBuffer.rules B.StoreBuffer.lists self.old) call answer (standing B.StoreBuffer.rules B.StoreBuffer.lists self.new)) }
+        ensures { IfOk result (λ answer. AnsweredOn (standing B.StoreBuffer self.old) call answer (standing B.StoreBuffer self.new)) }
     {
         match call {
             Call::Offer(offered) => match self.offer(offered) {
@@ -58,7 +58,7 @@ impl<B: StoreBuffer> Replay<B> {
 
     // Judges into a list of so many places, of which no more than 256 can matter.
     fn judged(&self, heap: Global, places: usize) -> Result<Answer, AllocError>
-        ensures { IfOk result (JudgedAs (standing B.StoreBuffer.rules B.StoreBuffer.lists self.now).held places) }
+        ensures { IfOk result (JudgedAs (standing B.StoreBuffer self.now).held places) }
     {
         let mut list = vec![in heap; BLANK; places.min(MOST)]?;
         match self.judge(&mut list) {
