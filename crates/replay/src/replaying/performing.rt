@@ -13,12 +13,6 @@ use buffers::StoreBuffer;
 use program::Program;
 use std::alloc::{AllocError, Global};
 
-// what stands in a list before it is written
-const BLANK: Name = Name {
-    thread: 0,
-    position: 0,
-};
-
 // Makes a replay of the program over the buffer, performs the calls in their order, and answers all their answers. That these are true is
 // this call's contract.
 pub fn perform<B: StoreBuffer + Drop>(
@@ -44,10 +38,10 @@ impl<B: StoreBuffer> Replay<B> {
         ensures { IfOk result (λ answer. AnsweredOn (standing B.StoreBuffer self.old) call answer (standing B.StoreBuffer self.new)) }
     {
         match call {
-            Call::Offer(offered) => match self.offer(offered) {
-                Ok(value) => Ok(Answer::Moved(value)),
-                Err(refusal) => Ok(Answer::Refused(refusal)),
-            },
+            Call::Offer(offered) => Ok(
+                self.offer(offered)
+                    .map_or_else(Answer::Refused, Answer::Moved),
+            ),
             Call::StartOver => {
                 self.start_over();
                 Ok(Answer::StartedOver)
@@ -60,7 +54,7 @@ impl<B: StoreBuffer> Replay<B> {
     fn judged(&self, heap: Global, places: usize) -> Result<Answer, AllocError>
         ensures { IfOk result (JudgedAs (standing B.StoreBuffer self.now).held places) }
     {
-        let mut list = vec![in heap; BLANK; places.min(MOST)]?;
+        let mut list = vec![in heap; Name::default(); places.min(MOST)]?;
         match self.judge(&mut list) {
             Ok(verdict) => {
                 list.truncate(verdict.entries);
