@@ -6,10 +6,10 @@ mod runs;
 
 use attacks::{Pair, attack_pairs};
 use buffers::{Direct, PerCell, Queue, StoreBuffer, StrongCells};
-use ledger::Move;
 use program::{Line, Program};
 use replay::{Answer, Call, perform};
 use std::alloc::Global;
+use std::array;
 
 // A program of these lines.
 fn program_of(rt: &HostRuntime, heap: Global, lines: &[Line]) -> anyhow::Result<Program> {
@@ -22,30 +22,12 @@ fn program_of(rt: &HostRuntime, heap: Global, lines: &[Line]) -> anyhow::Result<
     Ok(program)
 }
 
-fn print_call(rt: &HostRuntime, call: Call) -> anyhow::Result<()> {
-    match call {
-        Call::Offer(
-            Move::Run {
-                thread,
-                instruction,
-            },
-        ) => print!(rt; "run {thread} {instruction}: ")?,
-        Call::Offer(Move::Drain { thread, cell }) => print!(rt; "drain {thread} {cell}: ")?,
-        Call::StartOver => print!(rt; "start over: ")?,
-        Call::Judge { places } => print!(rt; "judge {places}: ")?,
-    }
-    Ok(())
-}
-
 fn print_answer(rt: &HostRuntime, answer: &Answer) -> anyhow::Result<()> {
     match answer {
         Answer::Moved(value) => println!(rt; "{value}")?,
         Answer::StartedOver => println!(rt; "done")?,
         Answer::Judged { verdict, list } => {
-            let word = verdict.word;
-            let entries = verdict.entries;
-            let delayed = verdict.delayed;
-            println!(rt; "{word} {entries} {delayed}")?;
+            println!(rt; "{verdict}")?;
             for name in list.iter() {
                 println!(rt; "{name}")?;
             }
@@ -66,7 +48,7 @@ fn show<B: StoreBuffer + Drop>(
     let program = program_of(rt, rt.alloc(), lines)?;
     let answers = perform(rt.alloc(), program, buffer, calls)?;
     for (call, answer) in calls.iter().zip(answers.iter()) {
-        print_call(rt, *call)?;
+        print!(rt; "{call}: ")?;
         print_answer(rt, answer)?;
     }
     Ok(())
@@ -144,8 +126,7 @@ fn passing(rt: &HostRuntime) -> anyhow::Result<()> {
         PerCell::new(rt.alloc())?,
         &runs::swapped(),
     )?;
-    let mut chosen = [false; 16];
-    chosen[0] = true;
+    let chosen = array::from_fn(|cell| cell == 0);
     show(
         rt,
         "message passing over per-cell under a strong cell 0",

@@ -1,6 +1,7 @@
 // The calls of the worked runs.
 use ledger::Move;
 use replay::Call;
+use std::array;
 
 const START_OVER: Call = Call::StartOver;
 
@@ -133,9 +134,10 @@ pub(super) fn bounds() -> [Call; 10] {
 
 // Sixteen stores and one more, which goes once one was drained.
 pub(super) fn filling() -> [Call; 19] {
-    let mut calls = [run(0, 0); 19];
-    calls[17] = drain(0, 0);
-    calls
+    array::from_fn(|call| match call {
+        17 => drain(0, 0),
+        _ => run(0, 0),
+    })
 }
 
 pub(super) fn fresh() -> [Call; 2] {
@@ -181,8 +183,9 @@ pub(super) fn over_again() -> [Call; 17] {
 
 // 256 runs and one more; then lists of 255 and of 256 places.
 pub(super) fn counting() -> [Call; 259] {
-    let mut calls = [run(0, 0); 259];
-    calls[257] = judge(255);
-    calls[258] = judge(256);
-    calls
+    array::from_fn(|call| match call {
+        257 => judge(255),
+        258 => judge(256),
+        _ => run(0, 0),
+    })
 }

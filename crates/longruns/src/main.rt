@@ -1,7 +1,6 @@
 // Judges two runs of 256 actions, the most that a run has, as often as its argument says: for counting what a judgement costs.
 #![tactic(auto)]
 
-use anyhow::anyhow;
 use buffers::Queue;
 use ledger::Move;
 use program::{Instruction, Line, Operand, Program};
@@ -12,10 +11,10 @@ use std::env;
 // each round has two actions of each thread
 const ROUNDS: usize = 16;
 
-const BLANK: Name = Name {
-    thread: 0,
-    position: 0,
-};
+// which of a thread's two instructions is its store
+const STORE: u8 = 0;
+
+const LOAD: u8 = 1;
 
 // The cell that a thread loads: the one that its neighbour stores to.
 fn neighbour(thread: u8) -> u8 {
@@ -34,84 +33,47 @@ fn neighbours(heap: Global) -> anyhow::Result<Program> {
             register: 0,
             address: Operand::Constant(u32::from(neighbour(thread))),
         };
-        add(&mut program, thread, 0, 1, store)?;
-        add(&mut program, thread, 1, 0, load)?;
+        program.add(Line::new(thread, 0, 1, store))?;
+        program.add(Line::new(thread, 1, 0, load))?;
     }
     Ok(program)
 }
 
-fn add(
-    program: &mut Program,
-    thread: u8,
-    label: u8,
-    next: u8,
-    instruction: Instruction,
-) -> anyhow::Result<()> {
-    let line = Line {
+// A thread runs one of its two instructions.
+fn run(thread: u8, which: u8) -> Move {
+    let thread = thread as usize;
+    Move::Run {
         thread,
-        label,
-        next,
-        instruction,
-    };
-    match program.add(line) {
-        Ok(_) => Ok(()),
-        Err(_) => Err(anyhow!("a line was refused")),
+        instruction: 2 * thread + which as usize,
     }
 }
 
-fn offer(replay: &mut Replay<Queue>, offered: Move) -> anyhow::Result<()> {
-    match replay.offer(offered) {
-        Ok(_) => Ok(()),
-        Err(_) => Err(anyhow!("a move was refused")),
+// A thread's store goes to its own cell.
+fn drain(thread: u8) -> Move {
+    let thread = thread as usize;
+    Move::Drain {
+        thread,
+        cell: thread,
     }
-}
-
-// A thread runs its store, the first of its two instructions.
-fn store(replay: &mut Replay<Queue>, thread: u8) -> anyhow::Result<()> {
-    let thread = thread as usize;
-    let instruction = 2 * thread;
-    offer(
-        replay,
-        Move::Run {
-            thread,
-            instruction,
-        },
-    )
-}
-
-fn load(replay: &mut Replay<Queue>, thread: u8) -> anyhow::Result<()> {
-    let thread = thread as usize;
-    let instruction = 2 * thread + 1;
-    offer(
-        replay,
-        Move::Run {
-            thread,
-            instruction,
-        },
-    )
-}
-
-fn drain(replay: &mut Replay<Queue>, thread: u8) -> anyhow::Result<()> {
-    let thread = thread as usize;
-    let cell = thread;
-    offer(replay, Move::Drain { thread, cell })
 }
 
 // A round of one thread, its store drained directly.
 fn prompt(replay: &mut Replay<Queue>, thread: u8) -> anyhow::Result<()> {
-    store(replay, thread)?;
-    drain(replay, thread)?;
-    load(replay, thread)
+    replay.offer(run(thread, STORE))?;
+    replay.offer(drain(thread))?;
+    replay.offer(run(thread, LOAD))?;
+    Ok(())
 }
 
 // A round of two neighbours, whose loads both come before the drains.
 fn late(replay: &mut Replay<Queue>, first: u8, second: u8) -> anyhow::Result<()> {
-    store(replay, first)?;
-    store(replay, second)?;
-    load(replay, first)?;
-    load(replay, second)?;
-    drain(replay, first)?;
-    drain(replay, second)
+    replay.offer(run(first, STORE))?;
+    replay.offer(run(second, STORE))?;
+    replay.offer(run(first, LOAD))?;
+    replay.offer(run(second, LOAD))?;
+    replay.offer(drain(first))?;
+    replay.offer(drain(second))?;
+    Ok(())
 }
 
 // All rounds, the last two threads late in the last one where `late_end` says so.
@@ -132,14 +94,11 @@ fn all_rounds(replay: &mut Replay<Queue>, late_end: bool) -> anyhow::Result<()> 
 
 // Judges that often, and answers the last verdict.
 fn judged(replay: &Replay<Queue>, times: u32) -> anyhow::Result<Verdict> {
-    let mut list = [BLANK; 256];
+    let mut list = [Name::default(); 256];
     for _ in 1..times {
         let _ = replay.judge(&mut list);
     }
-    match replay.judge(&mut list) {
-        Ok(verdict) => Ok(verdict),
-        Err(_) => Err(anyhow!("a judgement was refused")),
-    }
+    Ok(replay.judge(&mut list)?)
 }
 
 fn show(rt: &HostRuntime, late_end: bool, times: u32) -> anyhow::Result<()> {
@@ -147,10 +106,7 @@ fn show(rt: &HostRuntime, late_end: bool, times: u32) -> anyhow::Result<()> {
     let mut replay = Replay::new(rt.alloc(), program, Queue::new(rt.alloc())?)?;
     all_rounds(&mut replay, late_end)?;
     let verdict = judged(&replay, times)?;
-    let word = verdict.word;
-    let entries = verdict.entries;
-    let delayed = verdict.delayed;
-    println!(rt; "{times} times: {word} {entries} {delayed}")?;
+    println!(rt; "{times} times: {verdict}")?;
     Ok(())
 }
 

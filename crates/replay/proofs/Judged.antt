@@ -1,27 +1,25 @@
 -- The edges between numbered actions are those between the actions, and what an order or a ring of numbers says of the list of names.
-use Rattle.std.proofs.Common.{◌≡◌, ℕ, zero, suc, ◌+◌, ◌-◌, ◌<◌, ◌≤◌, Bool, true, false, ◌&&◌, ltb, List, [], ◌∷◌, ◌++◌, map, length, get_or, take, drop, Some, None, sym, refl, ap, ◌∙◌, subst, ⊎_elim, suc-le-suc, arith}
+use Rattle.std.proofs.Common.{◌≡◌, ℕ, zero, suc, ◌+◌, ◌-◌, ◌<◌, ◌≤◌, Bool, true, false, ◌&&◌, ltb, List, [], ◌∷◌, ◌++◌, map, length, get_or, take, drop, Some, None, Option, sym, refl, ap, ◌∙◌, subst, ⊎_elim, suc-le-suc, arith}
 use mathlib.Core.List.{map-map}
 use mathlib.Core.Path.{fun_ext}
 use Rattle.std.specs.List.{slice_get}
-use Rattle.std.proofs.lemmas.List.{drop_at, get_or-map, get_or-take, length-append, length-map, length-take-le, take_at}
+use Rattle.std.proofs.lemmas.List.{drop_at, get_or-map, length-append, length-map, length-take-le, take_at}
 use Rattle.std.proofs.lemmas.Bool.{and_parts, cases_lt, le-ltb, lt-ltb, ltb-true}
 use Rattle.graph.specs.Laws.{among}
 use Rattle.graph.specs.Sorting.{Answered, Ordered, Ringed}
 use Rattle.graph.specs.declared.ordering.Written.{Written}
 use Rattle.graph.specs.declared.ordering.Written.TheVariants.{Order, Ring}
 use Rattle.ledger.specs.Actions.{Name as Name', name}
-use Rattle.present.specs.Data.{Noted, Present, noted_at, nothing_noted}
+use Rattle.present.specs.Data.{Noted, Present, how_many_in, noted_at, nothing_noted}
 use Rattle.present.specs.Joins.{delaying_in, is_noted, joined_by, joined_in, node_joined, node_named, nodes_in}
-use Rattle.replay.specs.GraphLaws.{named_joined}
+use Rattle.replay.specs.GraphLaws.{named, named_joined}
 use Rattle.replay.specs.Names.{name_of}
-use Rattle.replay.specs.Numberings.{named, names_in}
 use Rattle.replay.specs.Verdicts.{FoundIn, ListedIn}
 use Rattle.replay.specs.declared.names.Name.{Name}
-use Rattle.replay.specs.declared.numbering.Numbering.{Numbering}
 use Rattle.replay.specs.declared.verdicts.Verdict.{Verdict}
 use Rattle.replay.specs.declared.verdicts.Word.{Word}
 use Rattle.replay.specs.declared.verdicts.Word.TheVariants.{Sequential, Violation}
-use Rattle.replay.proofs.Numbered.{names_length}
+use Rattle.replay.proofs.Numbered.{nodes_many}
 
 -- Nothing is found at a place only behind the end.
 nth_none : {X : Type 0} (xs : List X) (i : ℕ) → None ≡ slice_get xs i → length xs ≤ i
@@ -97,45 +95,36 @@ pub found_below : (own : Present) (w : Word) (ns : List ℕ) → FoundIn own w n
 found_below own Sequential ns found k within = ordered_below (node_joined own) (length (nodes_in own)) ns found k within
 found_below own Violation ns found k within = ringed_below (node_joined own) (length (nodes_in own)) ns (node_inside own) found k within
 
-module _ (own : Present) (n : Numbering) (is : names_in n ≡ nodes_in own) where
+module _ (own : Present) (names : List Name) (is : map name_of names ≡ nodes_in own) where
   -- There are as many numbers as nodes.
-  pub all_numbered : n.count ≡ length (nodes_in own)
-  all_numbered = sym (names_length n) ∙ ap length is
+  pub all_numbered : length names ≡ length (nodes_in own)
+  all_numbered = sym (length-map names name_of) ∙ ap length is
 
   -- A number names the node of that number.
-  pub names_node : (k : ℕ) → k < n.count → name_of (named n k) ≡ node_named own k
-  names_node k within =
-      let blank : Name = record { thread = 0; position = 0 } in
-      let front : List Name = take n.count n.names in
-      let many = n.many in
-      let few = n.few in
-      let fits : n.count ≤ length n.names = omega (arith, many, few) in
-      let there : k < length front = subst (λ m. k < m) (sym (length-take-le n.count n.names fits)) within in
-      sym (ap name_of (get_or-take n.count n.names k blank within))
-      ∙ sym (get_or-map name_of front k blank (name 8 0) there)
-      ∙ ap (λ l. get_or l k (name 8 0)) is
+  pub names_node : (k : ℕ) → k < length names → name_of (named names k) ≡ node_named own k
+  names_node k within = sym (get_or-map name_of names k (record { thread = 0; position = 0 }) (name 8 0) within) ∙ ap (λ l. get_or l k (name 8 0)) is
 
   -- The edges between the numbers are those between the nodes.
-  pub joins_same : among n.count (named_joined own n) ≡ node_joined own
+  pub joins_same : among (length names) (named_joined own names) ≡ node_joined own
   joins_same =
       fun_ext (λ u. fun_ext (λ v.
-      behind_both (ltb u n.count) (ltb v n.count) (named_joined own n u v) (joined_in own (node_named own u) (node_named own v))
-      (λ first second. ap (λ x. joined_in own x (name_of (named n v))) (names_node u (ltb-true u n.count first)) ∙ ap (joined_in own (node_named own u)) (names_node v (ltb-true v n.count second)))
+      behind_both (ltb u (length names)) (ltb v (length names)) (named_joined own names u v) (joined_in own (node_named own u) (node_named own v))
+      (λ first second. ap (λ x. joined_in own x (name_of (named names v))) (names_node u (ltb-true u (length names) first)) ∙ ap (joined_in own (node_named own u)) (names_node v (ltb-true v (length names) second)))
       ∙ ap (λ m. ltb u m && (ltb v m && joined_in own (node_named own u) (node_named own v))) all_numbered))
 
   -- An order of the numbers is an order of the nodes.
-  pub order_found : (ns : List ℕ) → Ordered (among n.count (named_joined own n)) n.count ns → FoundIn own Sequential ns
-  order_found ns order = subst (λ m. Ordered (node_joined own) m ns) all_numbered (subst (λ joins. Ordered joins n.count ns) joins_same order)
+  pub order_found : (ns : List ℕ) → Ordered (among (length names) (named_joined own names)) (length names) ns → FoundIn own Sequential ns
+  order_found ns order = subst (λ m. Ordered (node_joined own) m ns) all_numbered (subst (λ joins. Ordered joins (length names) ns) joins_same order)
 
   -- A ring of the numbers is a ring of the nodes.
-  pub ring_found : (ns : List ℕ) → Ringed (among n.count (named_joined own n)) ns → FoundIn own Violation ns
+  pub ring_found : (ns : List ℕ) → Ringed (among (length names) (named_joined own names)) ns → FoundIn own Violation ns
   ring_found ns ring = subst (λ joins. Ringed joins ns) joins_same ring
 
   -- Names written for an order or a ring are what a verdict lists.
-  pub names_listed : (before after : List Name) (v : Verdict) (ns : List ℕ) → FoundIn own v.word ns → v.entries ≡ length ns → length ns ≤ length before → after ≡ map (named n) ns ++ drop (length ns) before → v.delayed ≡ delaying_in own → ListedIn own before v after
+  pub names_listed : (before after : List Name) (v : Verdict) (ns : List ℕ) → FoundIn own v.word ns → v.entries ≡ length ns → length ns ≤ length before → after ≡ map (named names) ns ++ drop (length ns) before → v.delayed ≡ delaying_in own → ListedIn own before v after
   names_listed before after v ns found many room written delayed =
-      let long : length (map (named n) ns) ≡ v.entries = length-map ns (named n) ∙ sym many in
-      let whole = ap length written ∙ length-append (map (named n) ns) (drop (length ns) before) in
+      let long : length (map (named names) ns) ≡ v.entries = length-map ns (named names) ∙ sym many in
+      let whole = ap length written ∙ length-append (map (named names) ns) (drop (length ns) before) in
       record {
         numbers = ns;
         found = found;
@@ -143,36 +132,40 @@ module _ (own : Present) (n : Numbering) (is : names_in n ≡ nodes_in own) wher
         within = omega (arith, whole, long);
         list =
             ap (λ l. map name_of (take v.entries l)) written
-            ∙ ap (map name_of) (take_at (map (named n) ns) (drop (length ns) before) v.entries long)
-            ∙ map-map name_of (named n) ns
-            ∙ map_agree (λ k. name_of (named n k)) (node_named own) ns (λ k within. names_node (get_or ns k 0) (subst (λ m. get_or ns k 0 < m) (sym all_numbered) (found_below own v.word ns found k within)));
+            ∙ ap (map name_of) (take_at (map (named names) ns) (drop (length ns) before) v.entries long)
+            ∙ map-map name_of (named names) ns
+            ∙ map_agree (λ k. name_of (named names k)) (node_named own) ns (λ k within. names_node (get_or ns k 0) (subst (λ m. get_or ns k 0 < m) (sym all_numbered) (found_below own v.word ns found k within)));
         later =
             ap (drop v.entries) written
-            ∙ drop_at (map (named n) ns) (drop (length ns) before) v.entries long
+            ∙ drop_at (map (named names) ns) (drop (length ns) before) v.entries long
             ∙ ap (λ k. drop k before) (sym many);
         delayed = delayed;
       }
 
--- What a search for an order has written: the word is right by these numbers, and they are as many as it says.
-pub record Placed (own : Present) (told : Word × ℕ) (ns : List ℕ) : Type 0 where
+-- What a search for an order has written: the word is right by these numbers, they are as many as it says, and there is room for all.
+pub record Placed (own : Present) (told : Word × ℕ) (room : ℕ) (ns : List ℕ) : Type 0 where
   pub many : told.1 ≡ length ns
   pub found : FoundIn own told.0 ns
+  pub enough : how_many_in own ≤ room
 
--- Numbers from the start of a list, that many of them.
-placed_front : (own : Present) (w : Word) (k : ℕ) (new : List ℕ) → k ≤ length new → FoundIn own w (take k new) → Placed own (w, k) (take (k - 0) new)
-placed_front own w k new within found =
-    let from_start : k ≡ k - 0 = omega arith in
-    subst (λ j. Placed own (w, k) (take j new)) from_start (record { many = sym (length-take-le k new within); found = found })
+module _ (own : Present) (names : List Name) (is : map name_of names ≡ nodes_in own) (old new : List ℕ) (o : Option Written) (answered : Answered (among (length names) (named_joined own names)) (length names) old new o) where
+  -- A list with too few places for the actions is as before.
+  pub too_few : o ≡ None → length new < how_many_in own
+  too_few gone =
+      let so = subst (λ w. Answered (among (length names) (named_joined own names)) (length names) old new w) gone answered in
+      omega (arith, so.0, ap length so.1, all_numbered own names is, nodes_many own)
 
-module _ (own : Present) (n : Numbering) (is : names_in n ≡ nodes_in own) (old new : List ℕ) (written : Written) (told : Word × ℕ) (k : ℕ) (answered : Answered (among n.count (named_joined own n)) n.count old new (Some written)) where
-  -- An order was written.
-  pub order_placed : told ≡ (Sequential, k) → written ≡ Order k → Placed own told (take (told.1 - 0) new)
-  order_placed said so =
-      let front = (subst (λ w. Answered (among n.count (named_joined own n)) n.count old new (Some w)) so answered).1 in
-      subst (λ t. Placed own t (take (t.1 - 0) new)) (sym said) (placed_front own Sequential k new front.within (order_found own n is (take k new) front.front))
+  module _ (written : Written) (told : Word × ℕ) (k : ℕ) (some : o ≡ Some written) where
+    -- An order was written.
+    pub order_placed : told ≡ (Sequential, k) → written ≡ Order k → length new ≡ length old → Placed own told (length new) (take told.1 new)
+    order_placed said so long =
+        let here = subst (λ w. Answered (among (length names) (named_joined own names)) (length names) old new w) (some ∙ ap Some so) answered in
+        subst (λ t. Placed own t (length new) (take t.1 new)) (sym said)
+        (record { many = sym (length-take-le k new here.1.within); found = order_found own names is (take k new) here.1.front; enough = omega (arith, here.0, long, all_numbered own names is, nodes_many own) })
 
-  -- A ring was written.
-  pub ring_placed : told ≡ (Violation, k) → written ≡ Ring k → Placed own told (take (told.1 - 0) new)
-  ring_placed said so =
-      let front = (subst (λ w. Answered (among n.count (named_joined own n)) n.count old new (Some w)) so answered).1 in
-      subst (λ t. Placed own t (take (t.1 - 0) new)) (sym said) (placed_front own Violation k new front.within (ring_found own n is (take k new) front.front))
+    -- A ring was written.
+    pub ring_placed : told ≡ (Violation, k) → written ≡ Ring k → length new ≡ length old → Placed own told (length new) (take told.1 new)
+    ring_placed said so long =
+        let here = subst (λ w. Answered (among (length names) (named_joined own names)) (length names) old new w) (some ∙ ap Some so) answered in
+        subst (λ t. Placed own t (length new) (take t.1 new)) (sym said)
+        (record { many = sym (length-take-le k new here.1.within); found = ring_found own names is (take k new) here.1.front; enough = omega (arith, here.0, long, all_numbered own names is, nodes_many own) })

@@ -1,9 +1,10 @@
 -- A judgement into a list that is long enough for every run, as an answer.
-use Rattle.std.proofs.Common.{◌≡◌, ℕ, min, Bool, true, false, List, map, length, take, Ok, Err, vec_items, MatchBool, Vec, ap, ◌∙◌, arith}
+use Rattle.std.proofs.Common.{◌≡◌, ℕ, ◌≤◌, min, Bool, true, false, List, map, length, take, Ok, Err, Result, vec_items, MatchBool, Vec, ap, ◌∙◌, arith}
 use Rattle.std.specs.declared.alloc.Global.{Global}
+use Rattle.refusal.specs.declared.Refusal.{Refusal}
 use Rattle.refusal.specs.declared.Refusal.TheVariants.{StoreWaits}
 use Rattle.buffers.specs.Lists.{nothing_waits}
-use Rattle.present.specs.Data.{Held}
+use Rattle.present.specs.Data.{Held, how_many_in}
 use Rattle.replay.specs.Names.{name_of}
 use Rattle.replay.specs.Performed.{JudgedAs, JudgedNow}
 use Rattle.replay.specs.Verdicts.{JudgedHeld, JudgedIn}
@@ -27,3 +28,11 @@ verdict_as h places before after v list sized front = go (nothing_waits h.lists)
       },
     )
     go false so = absurd (let z : ◌≡◌ {A = ℕ} 0 1 = cc so.0 in omega (arith, z))
+
+-- A refusal is answered as it is.
+pub refused_as : (h : Held) (places : ℕ) (before after : List Name) (r : Refusal) → how_many_in h.own ≤ 256 → length before ≡ min places 256 → JudgedHeld h before (Err r) after → JudgedAs h places (Refused r)
+refused_as h places before after r few sized = go (nothing_waits h.lists)
+  where
+    go : (b : Bool) → MatchBool b (JudgedIn h.own before (Err r) after) ((◌≡◌ {A = Result Verdict Refusal} (Err r) (Err StoreWaits)) × (after ≡ before)) → MatchBool b (JudgedNow h.own places (Refused r)) (Refused r ≡ Refused StoreWaits)
+    go true so = (omega (arith, so.0, sized, few), so.1)
+    go false so = ap Refused (let same : r ≡ StoreWaits = cc so.0 in same)

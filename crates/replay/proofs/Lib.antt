@@ -1,10 +1,7 @@
-pub mod Bits
 pub mod Judged
 pub mod Judgements
 pub mod Keeping
-pub mod Lining
 pub mod Numbered
-pub mod Ones
 pub mod Performing
 pub mod Stating
 pub mod Steps

@@ -1,22 +1,14 @@
 -- The names that have a number: how they grow by one name and by one thread, and how many they are.
 use Rattle.std.proofs.Common.{◌≡◌, ℕ, zero, suc, ◌+◌, ◌<◌, ◌≤◌, List, [], ◌∷◌, ◌++◌, map, length, get_or, take, drop, set, sym, refl, ap, ◌∙◌, append_assoc, append-nil, le_of_suc-le-suc, arith}
 use mathlib.Core.Path.{fun_ext}
-use Rattle.std.proofs.lemmas.List.{drop_more, length-append, length-map, length-take-le, map_more, map_push, set_at, take_more, take_more_set}
+use Rattle.std.proofs.lemmas.List.{drop_more, length-append, length-map, length-take-le, map_more, set_at, take_more}
 use Rattle.ledger.specs.Actions.{Action, Name as Name', name}
 use Rattle.ledger.specs.Nodes.{nodes_of, run_of_names}
 use Rattle.ledger.specs.Tests.{sum_over, threads}
 use Rattle.present.specs.Data.{Present, actions_in, how_many_in}
 use Rattle.present.specs.Joins.{nodes_in}
 use Rattle.replay.specs.Names.{name_of}
-use Rattle.replay.specs.Numberings.{names_in}
 use Rattle.replay.specs.declared.names.Name.{Name}
-use Rattle.replay.specs.declared.numbering.Numbering.{Numbering}
-
--- As many names have a number as are counted.
-pub names_length : (n : Numbering) → length (names_in n) ≡ n.count
-names_length n =
-    let within : n.count ≤ length n.names = omega (arith, n.many, n.few) in
-    length-map (take n.count n.names) name_of ∙ length-take-le n.count n.names within
 
 -- A run of names that is one longer has one name more at its end.
 pub run_more : (t p n : ℕ) → run_of_names t p (suc n) ≡ run_of_names t p n ++ name t (p + n) ∷ []
@@ -30,10 +22,6 @@ pub run_length : (t p n : ℕ) → length (run_of_names t p n) ≡ n
 run_length t p zero = refl
 run_length t p (suc n) = ap suc (run_length t (suc p) n)
 
--- A name that is written behind those that have a number is the last of those that then have one.
-pub next_named : (names : List Name) (count : ℕ) (x : Name) → count < length names → map name_of (take (count + 1) (set names count x)) ≡ map name_of (take count names) ++ name_of x ∷ []
-next_named names count x within = ap (map name_of) (take_more_set names count x within) ∙ map_push name_of (take count names) x
-
 -- Behind a run of a thread's names its next name comes.
 pub run_goes_on : (before now after : List Name') (t p : ℕ) → now ≡ before ++ run_of_names t 0 p → after ≡ now ++ name t p ∷ [] → after ≡ before ++ run_of_names t 0 (p + 1)
 run_goes_on before now after t p so_far more =
@@ -44,10 +32,10 @@ run_goes_on before now after t p so_far more =
     ∙ append_assoc before (run_of_names t 0 p) (name t p ∷ [])
     ∙ ap (λ l. before ++ l) (ap (λ q. run_of_names t 0 p ++ name t q ∷ []) z ∙ sym (run_more t 0 p) ∙ ap (run_of_names t 0) e)
 
--- How many names have a number in the course of a run.
-pub run_counted : (before : List Name') (n : Numbering) (t p : ℕ) → names_in n ≡ before ++ run_of_names t 0 p → n.count ≡ length before + p
-run_counted before n t p so_far =
-    let long = sym (names_length n) ∙ ap length so_far ∙ length-append before (run_of_names t 0 p) in
+-- How many names there are in the course of a run.
+pub run_counted : (before : List Name') (names : List Name) (t p : ℕ) → map name_of names ≡ before ++ run_of_names t 0 p → length names ≡ length before + p
+run_counted before names t p so_far =
+    let long = sym (length-map names name_of) ∙ ap length so_far ∙ length-append before (run_of_names t 0 p) in
     omega (arith, long, run_length t 0 p)
 
 -- A list in the course of being written by a function of numbers, one more of them written.

@@ -25,10 +25,19 @@ use Rattle.replay.specs.Offers.{Offered, acting, held_after}
 use Rattle.replay.specs.declared.actions.Action.{Action}
 use Rattle.replay.specs.States.{line_at, next_line, noted_ran}
 
+-- an answer is no refusal
+ok_err : {X : Type 0} {x : X} {r : Refusal} → ◌≡◌ {A = Result X Refusal} (Err r) (Ok x) → ⊥
+ok_err is = let z : ◌≡◌ {A = ℕ} 0 1 = cc in omega (arith, z)
+
 -- What was told where there was something to tell.
-pub ok_or_told : (o : Option ℕ) (e : Refusal) (v : ℕ) → Ok v ≡ ok_or o e → o ≡ Some v
+pub ok_or_told : {X : Type 0} (o : Option X) (e : Refusal) (v : X) → Ok v ≡ ok_or o e → o ≡ Some v
 ok_or_told None e v is = cc
 ok_or_told (Some w) e v is = cc
+
+-- Where there was nothing, the refusal is that.
+pub ok_or_gone : {X : Type 0} (o : Option X) (e r : Refusal) → Err r ≡ ok_or o e → (o ≡ None) × (r ≡ e)
+ok_or_gone None e r is = (refl, cc)
+ok_or_gone (Some w) e r is = absurd (ok_err is)
 
 -- Where the first tests refuse a run, all of them do, by that.
 pub refused_early : (rules : Rules) (ls : List Line) (h : Held) (t n : ℕ) (r : Refusal) → next_line h.own ls t n ≡ Err r → tested_held rules ls h (Run t n) ≡ Some r
@@ -54,10 +63,6 @@ pub record Found (rules : Rules) (ls : List Line) (h : Held) (t n : ℕ) (line :
   pub there : slice_get ls n ≡ Some line
   pub room : how_many_in h.own < 256
   pub rest : tested_held rules ls h (Run t n) ≡ guard (not (rules.steps h.lists t)) ThreadNotFree (form_tested_held h t line.instruction)
-
--- an answer is no refusal
-ok_err : {X : Type 0} {x : X} {r : Refusal} → ◌≡◌ {A = Result X Refusal} (Err r) (Ok x) → ⊥
-ok_err is = let z : ◌≡◌ {A = ℕ} 0 1 = cc in omega (arith, z)
 
 -- Where they find a line, it is there, and the others decide.
 pub found_line : (rules : Rules) (ls : List Line) (h : Held) (t n : ℕ) (line : Line) → next_line h.own ls t n ≡ Ok line → Found rules ls h t n line

@@ -1,8 +1,8 @@
 pub mod GraphLaws
 pub mod Names
-pub mod Numberings
 pub mod Offers
 pub mod Performed
+pub mod Standings
 pub mod States
 pub mod Texts
 pub mod Truth

@@ -1,6 +1,12 @@
 // An accepted run of an instruction, as it is kept.
 use super::names::Source;
 
+// the most actions that a run has
+pub(crate) const MOST: usize = 256;
+
+// how many cells there are
+pub(crate) const CELLS: usize = 16;
+
 // What an action does to memory.
 #[derive(Clone, Copy)]
 pub enum Access {

@@ -6,11 +6,11 @@ mod calls;
 mod happens_before;
 mod judging;
 mod names;
-mod numbering;
 mod replaying;
 mod state;
 mod text;
 mod thread;
+mod turn;
 mod verdicts;
 
 pub use calls::{Answer, Call};

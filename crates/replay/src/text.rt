@@ -1,9 +1,10 @@
-// How names and words are written out.
+// How names, verdicts and calls are written out.
 ghost use Rattle.std.specs.Prelude.{Some};
-ghost use Rattle.replay.specs.Texts.{name_text, word_text};
+ghost use Rattle.replay.specs.Texts.{call_text, name_text, verdict_text, word_text};
 
+use super::calls::Call;
 use super::names::Name;
-use super::verdicts::Word;
+use super::verdicts::{Verdict, Word};
 use std::fmt;
 
 impl fmt::Display for Name {
@@ -25,5 +26,28 @@ impl fmt::Display for Word {
             Word::Violation => "violation",
         };
         write!(f, "{word}")
+    }
+}
+
+impl fmt::Display for Verdict {
+    ghost output = { λ v. Some (verdict_text v) };
+
+    fn fmt<W: fmt::Write>(&self, f: &mut fmt::Formatter<W>) -> fmt::Result {
+        let word = self.word;
+        let entries = self.entries;
+        let delayed = self.delayed;
+        write!(f, "{word} {entries} {delayed}")
+    }
+}
+
+impl fmt::Display for Call {
+    ghost output = { λ c. Some (call_text c) };
+
+    fn fmt<W: fmt::Write>(&self, f: &mut fmt::Formatter<W>) -> fmt::Result {
+        match *self {
+            Call::Offer(offered) => write!(f, "{offered}"),
+            Call::StartOver => write!(f, "start over"),
+            Call::Judge { places } => write!(f, "judge {places}"),
+        }
     }
 }

@@ -1,5 +1,5 @@
 // What is kept of one thread. What holds of every such thread is said here, in the type.
-ghost use Rattle.std.specs.Prelude.{◌≡◌, ◌≤◌, length, vec_len, vec_capacity};
+ghost use Rattle.std.specs.Prelude.{◌≤◌, vec_capacity};
 
 use super::actions::Action;
 
@@ -9,10 +9,10 @@ pub struct Thread {
     registers: [u32; 8],
     // the actions in the order in which they ran
     actions: Vec<Action>,
-    ghost eight: { length registers ≡ 8 },
+    // whether it delayed a store of its own
+    delayed: bool,
     // room for every action was had when the thread was made
     ghost room: { 256 ≤ vec_capacity actions },
-    ghost few: { vec_len actions ≤ 256 },
 }
 
 mod calls;

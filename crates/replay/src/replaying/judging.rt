@@ -1,22 +1,21 @@
 // Judging what was replayed.
 ghost use Rattle.std.specs.Prelude.{◌≡◌, not};
 ghost use Rattle.buffers.specs.Lists.{nothing_waits};
+ghost use Rattle.replay.specs.Standings.{standing};
 ghost use Rattle.replay.specs.Verdicts.{JudgedHeld};
-ghost use Rattle.replay.specs.Views.{held};
 
 use super::super::names::Name;
+use super::super::state::THREADS;
 use super::super::verdicts::Verdict;
 use super::Replay;
 use buffers::StoreBuffer;
 use refusal::Refusal;
 
-const THREADS: usize = 8;
-
 impl<B: StoreBuffer> Replay<B> {
     // Judges the actions so far, and lists their order or a ring of them at the front of the list; its later places are as before.
     // Refused while a store waits, then where the list has fewer places than there are actions; the list is then as before.
     pub fn judge(&self, list: &mut [Name]) -> Result<Verdict, Refusal>
-        ensures { JudgedHeld (held (B.StoreBuffer.lists self.now.buffer) self.now.state) list.old result list.new }
+        ensures { JudgedHeld (standing B.StoreBuffer self.now).held list.old result list.new }
     {
         if self.store_waits() {
             return Err(Refusal::StoreWaits);
@@ -28,11 +27,6 @@ impl<B: StoreBuffer> Replay<B> {
     fn store_waits(&self) -> bool
         ensures { result ≡ not (nothing_waits (B.StoreBuffer.lists self.now.buffer)) }
     {
-        for thread in 0..THREADS {
-            if self.buffer.waiting(thread) > 0 {
-                return true;
-            }
-        }
-        false
+        (0..THREADS).any(|thread| self.buffer.waiting(thread) > 0)
     }
 }

@@ -1,8 +1,7 @@
 // Making a replay, and starting over.
-ghost use Rattle.std.specs.Prelude.{◌≡◌, IfOk};
+ghost use Rattle.std.specs.Prelude.{IfOk};
 ghost use Rattle.program.specs.Programs.{lines_of};
-ghost use Rattle.present.specs.Data.{fresh_held};
-ghost use Rattle.replay.specs.Views.{held};
+ghost use Rattle.replay.specs.Standings.{Fresh, standing};
 
 use super::super::state::State;
 use super::Replay;
@@ -15,9 +14,7 @@ impl<B: StoreBuffer> Replay<B> {
     pub fn new(heap: Global, program: Program, buffer: B) -> Result<Replay<B>, AllocError>
     where
         B: Drop,
-        ensures held { IfOk result (λ replay. held (B.StoreBuffer.lists replay.buffer) replay.state ≡ fresh_held) }
-        ensures rules { IfOk result (λ replay. B.StoreBuffer.rules replay.buffer ≡ B.StoreBuffer.rules buffer) }
-        ensures program { IfOk result (λ replay. lines_of replay.program ≡ lines_of program) }
+        ensures { IfOk result (λ replay. Fresh (B.StoreBuffer.rules buffer) (lines_of program) (standing B.StoreBuffer replay)) }
     {
         let state = State::new(heap)?;
         let mut buffer = buffer;
@@ -31,9 +28,7 @@ impl<B: StoreBuffer> Replay<B> {
 
     // Goes back to the start: labels, registers and cells are 0, and there is no action and no waiting store.
     pub fn start_over(&mut self)
-        ensures held { held (B.StoreBuffer.lists self.new.buffer) self.new.state ≡ fresh_held }
-        ensures rules { B.StoreBuffer.rules self.new.buffer ≡ B.StoreBuffer.rules self.old.buffer }
-        ensures program { lines_of self.new.program ≡ lines_of self.old.program }
+        ensures { let before = standing B.StoreBuffer self.old in Fresh before.rules before.lines (standing B.StoreBuffer self.new) }
     {
         self.buffer.clear();
         self.state.clear();

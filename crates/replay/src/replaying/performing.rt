@@ -1,25 +1,17 @@
 // Performing whole lists of calls.
-ghost use Rattle.std.specs.Prelude.{◌≡◌, IfOk};
+ghost use Rattle.std.specs.Prelude.{IfOk};
 ghost use Rattle.program.specs.Programs.{lines_of};
-ghost use Rattle.replay.specs.Performed.{Answered, JudgedAs};
+ghost use Rattle.replay.specs.Performed.{JudgedAs};
+ghost use Rattle.replay.specs.Standings.{AnsweredOn, standing};
 ghost use Rattle.replay.specs.Truth.{VerdictsTrue};
-ghost use Rattle.replay.specs.Views.{held};
 
+use super::super::actions::MOST;
 use super::super::calls::{Answer, Call};
 use super::super::names::Name;
 use super::Replay;
 use buffers::StoreBuffer;
 use program::Program;
 use std::alloc::{AllocError, Global};
-
-// the most actions that a run has
-const MOST: usize = 256;
-
-// what stands in a list before it is written
-const BLANK: Name = Name {
-    thread: 0,
-    position: 0,
-};
 
 // Makes a replay of the program over the buffer, performs the calls in their order, and answers all their answers. That these are true is
 // this call's contract.
@@ -43,15 +35,13 @@ pub fn perform<B: StoreBuffer + Drop>(
 impl<B: StoreBuffer> Replay<B> {
     // Performs one call.
     fn answer(&mut self, heap: Global, call: Call) -> Result<Answer, AllocError>
-        ensures answer { IfOk result (λ answer. Answered (B.StoreBuffer.rules self.old.buffer) (lines_of self.old.program) (held (B.StoreBuffer.lists self.old.buffer) self.old.state) call answer (held (B.StoreBuffer.lists self.new.buffer) self.new.state)) }
-        ensures rules { B.StoreBuffer.rules self.new.buffer ≡ B.StoreBuffer.rules self.old.buffer }
-        ensures program { lines_of self.new.program ≡ lines_of self.old.program }
+        ensures { IfOk result (λ answer. AnsweredOn (standing B.StoreBuffer self.old) call answer (standing B.StoreBuffer self.new)) }
     {
         match call {
-            Call::Offer(offered) => match self.offer(offered) {
-                Ok(value) => Ok(Answer::Moved(value)),
-                Err(refusal) => Ok(Answer::Refused(refusal)),
-            },
+            Call::Offer(offered) => Ok(
+                self.offer(offered)
+                    .map_or_else(Answer::Refused, Answer::Moved),
+            ),
             Call::StartOver => {
                 self.start_over();
                 Ok(Answer::StartedOver)
@@ -62,9 +52,9 @@ impl<B: StoreBuffer> Replay<B> {
 
     // Judges into a list of so many places, of which no more than 256 can matter.
     fn judged(&self, heap: Global, places: usize) -> Result<Answer, AllocError>
-        ensures { IfOk result (JudgedAs (held (B.StoreBuffer.lists self.now.buffer) self.now.state) places) }
+        ensures { IfOk result (JudgedAs (standing B.StoreBuffer self.now).held places) }
     {
-        let mut list = vec![in heap; BLANK; places.min(MOST)]?;
+        let mut list = vec![in heap; Name::default(); places.min(MOST)]?;
         match self.judge(&mut list) {
             Ok(verdict) => {
                 list.truncate(verdict.entries);

@@ -1,8 +1,7 @@
 // What is done with one thread.
-ghost use Rattle.std.specs.Prelude.{◌≡◌, ◌<◌, ◌≤◌, true, [], ◌∷◌, ◌++◌, length, IfOk};
+ghost use Rattle.std.specs.Prelude.{◌≡◌, ◌<◌, [], ◌∷◌, ◌++◌, ◌||◌, false, length, IfOk};
 ghost use Rattle.std.specs.List.{slice_get};
 ghost use Rattle.std.specs.Option.{option_map};
-ghost use Rattle.program.specs.Ranges.{in_range, operand_in_range};
 ghost use Rattle.ledger.specs.Ledgers.{operand as operand_value, start_local};
 ghost use Rattle.ledger.specs.Moves.{ran};
 ghost use Rattle.present.specs.Calls.{overwriting};
@@ -10,14 +9,12 @@ ghost use Rattle.present.specs.Data.{left_waiting, oldest_left, youngest_left};
 ghost use Rattle.replay.specs.Names.{source_of};
 ghost use Rattle.replay.specs.Views.{local_of, noted_in, noted_of};
 
-use super::super::actions::{Access, Action};
+use super::super::actions::{Access, Action, MOST};
 use super::super::names::Source;
+use super::super::turn::Turn;
 use super::Thread;
-use program::{Instruction, Line, Operand};
+use program::{Instruction, Operand};
 use std::alloc::{AllocError, Global};
-
-// the most actions that a run has
-const MOST: usize = 256;
 
 impl Action {
     // Whether it is a store to the cell that was not drained.
@@ -36,12 +33,14 @@ impl Thread {
     pub(crate) fn new(heap: Global) -> Result<Thread, AllocError>
         ensures local { IfOk result (λ thread. local_of thread ≡ start_local) }
         ensures noted { IfOk result (λ thread. noted_in thread ≡ []) }
+        ensures delayed { IfOk result (λ thread. thread.delayed ≡ false) }
     {
         let actions = Vec::with_capacity(heap, MOST)?;
         Ok(Thread {
             label: 0,
             registers: [0; 8],
             actions,
+            delayed: false,
         })
     }
 
@@ -49,10 +48,12 @@ impl Thread {
     pub(crate) fn clear(&mut self)
         ensures local { local_of self.new ≡ start_local }
         ensures noted { noted_in self.new ≡ [] }
+        ensures delayed { self.new.delayed ≡ false }
     {
         self.label = 0;
         self.registers = [0; 8];
         self.actions.clear();
+        self.delayed = false;
     }
 
     // Where the thread stands.
@@ -64,10 +65,16 @@ impl Thread {
 
     // How many actions there are.
     pub(crate) fn len(&self) -> usize
-        ensures value { result ≡ length (noted_in self.now) }
-        ensures bound { result ≤ 256 }
+        ensures { result ≡ length (noted_in self.now) }
     {
         self.actions.len()
+    }
+
+    // Whether it delayed a store of its own.
+    pub(crate) fn delayed(&self) -> bool
+        ensures { result ≡ self.now.delayed }
+    {
+        self.delayed
     }
 
     // The action at a position, if there is one.
@@ -79,11 +86,12 @@ impl Thread {
 
     // What an operand comes to.
     pub(crate) fn operand(&self, operand: Operand) -> u32
-        requires { operand_in_range operand ≡ true }
         ensures { result ≡ operand_value (local_of self.now).registers operand }
     {
         match operand {
-            Operand::Register(register) => self.registers[register as usize],
+            Operand::Register(register) => {
+                self.registers.get(register as usize).copied().unwrap_or(0)
+            }
             Operand::Constant(constant) => constant,
         }
     }
@@ -92,59 +100,38 @@ impl Thread {
     pub(crate) fn oldest_left(&self, cell: usize) -> Option<usize>
         ensures { result ≡ oldest_left 0 cell (noted_in self.now) }
     {
-        for (position, action) in self.actions.iter().enumerate() {
-            if action.left_waiting(cell) {
-                return Some(position);
-            }
-        }
-        None
+        self.actions
+            .iter()
+            .position(|action| action.left_waiting(cell))
     }
 
     // The position of the youngest.
     pub(crate) fn youngest_left(&self, cell: usize) -> Option<usize>
         ensures { result ≡ youngest_left 0 cell (noted_in self.now) }
     {
-        let mut youngest = None;
-        for (position, action) in self.actions.iter().enumerate() {
-            if action.left_waiting(cell) {
-                youngest = Some(position);
-            }
-        }
-        youngest
+        self.actions
+            .iter()
+            .rposition(|action| action.left_waiting(cell))
     }
 
-    // Moves on to the next label. A load and a compute write their value into their register.
-    fn move_on(&mut self, line: Line, value: u32)
-        requires { in_range line ≡ true }
-        ensures local { local_of self.new ≡ ran line value (local_of self.old) }
-        ensures noted { noted_in self.new ≡ noted_in self.old }
+    // Runs a line: moves on to the next label, keeps the action, and notes whether the thread delayed a store of its own by that. A
+    // load and a compute write their value into their register.
+    pub(crate) fn run(&mut self, turn: Turn, action: Action, delays: bool)
+        requires { length (noted_in self.old) < 256 }
+        ensures local { local_of self.new ≡ ran turn.line action.value (local_of self.old) }
+        ensures noted { noted_in self.new ≡ noted_in self.old ++ noted_of action ∷ [] }
+        ensures delayed { self.new.delayed ≡ (self.old.delayed || delays) }
     {
-        self.label = line.next;
-        match line.instruction {
-            Instruction::Load { register, .. } => self.registers[register as usize] = value,
-            Instruction::Compute { register, .. } => self.registers[register as usize] = value,
+        self.label = turn.line.next;
+        match turn.line.instruction {
+            Instruction::Load { register, .. } => self.registers[register as usize] = action.value,
+            Instruction::Compute { register, .. } => {
+                self.registers[register as usize] = action.value;
+            }
             Instruction::Store { .. } | Instruction::Fence | Instruction::Assert { .. } => {}
         }
-    }
-
-    // Keeps an action behind the others.
-    fn keep(&mut self, action: Action)
-        requires { length (noted_in self.old) < 256 }
-        ensures local { local_of self.new ≡ local_of self.old }
-        ensures noted { noted_in self.new ≡ noted_in self.old ++ noted_of action ∷ [] }
-    {
         self.actions.push_reserved(action);
-    }
-
-    // Runs a line: moves on, and keeps its action.
-    pub(crate) fn run(&mut self, line: Line, action: Action)
-        requires ranged { in_range line ≡ true }
-        requires room { length (noted_in self.old) < 256 }
-        ensures local { local_of self.new ≡ ran line action.value (local_of self.old) }
-        ensures noted { noted_in self.new ≡ noted_in self.old ++ noted_of action ∷ [] }
-    {
-        self.move_on(line, action.value);
-        self.keep(action);
+        self.delayed |= delays;
     }
 
     // Notes what the store at a position overwrote in memory.
@@ -152,6 +139,7 @@ impl Thread {
         requires { position < length (noted_in self.old) }
         ensures local { local_of self.new ≡ local_of self.old }
         ensures noted { noted_in self.new ≡ overwriting (source_of source) position (noted_in self.old) }
+        ensures delayed { self.new.delayed ≡ self.old.delayed }
     {
         self.actions[position].over = Some(source);
     }

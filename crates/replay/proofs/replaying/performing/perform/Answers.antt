@@ -44,7 +44,7 @@ loop-call-preserved g c =
     (subst (λ (l : List Line). Answered (g.B.StoreBuffer.rules c.loop-call.replay.buffer) l before (get_or calls i StartOver) a after) same_lines
     (subst (λ (call : Call). Answered (g.B.StoreBuffer.rules c.loop-call.replay.buffer) (lines_of c.loop-call.replay.program) before call a after) (get_or_default calls i (Offer (Run 0 0)) StartOver c.loop-call-test.true) c.in_ok-answer.ensures.answer)) in
     let more = going_more rules (g.met.B.StoreBuffer.lawful replay.buffer) ls calls i (vec_items c.loop-call.answers) before c.loop-call.invariant.0 c.loop-call-test.true a after so in
-    (subst (λ (answers : List Answer). Going rules ls calls (i + 1) answers after) (sym c.in_ok-push.ensures.items) more, (c.answer.ensures.rules ∙ same-rules, c.answer.ensures.program ∙ same_lines))
+    (subst (λ (answers : List Answer). Going rules ls calls (i + 1) answers after) (sym c.in_ok-push.ensures.items) more, (c.in_ok-answer.ensures.rules ∙ same-rules, c.in_ok-answer.ensures.program ∙ same_lines))
 
 pub returns : goal.returns
 returns g c =

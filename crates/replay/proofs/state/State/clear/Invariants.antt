@@ -1,10 +1,10 @@
-use Rattle.std.proofs.Common.{◌≡◌, [], map, length, take, replicate}
-use Rattle.ledger.specs.Ledgers.{start_local}
-use Rattle.replay.specs.Views.{local_of, noted_in}
+use Rattle.std.proofs.Common.{◌≡◌, ℕ, ◌<◌, length, get_or}
+use Rattle.replay.proofs.Stating.{AtStart}
+use Rattle.replay.specs.declared.thread.Thread.{Thread}
 use Rattle.replay.proofs.state.State.clear.Given as goal
 
 abbrev pub invariant-loop-thread : goal.invariant-loop-thread
-invariant-loop-thread l =
-    (take l.thread-index (map local_of l.thread-items) ≡ replicate l.thread-index start_local)
-    × (take l.thread-index (map noted_in l.thread-items) ≡ replicate l.thread-index [])
-    × (length l.thread-items ≡ 8)
+invariant-loop-thread l = record {
+  fresh : (k : ℕ) (d : Thread) → k < l.thread-index → AtStart (get_or l.thread-items k d);
+  eight : length l.thread-items ≡ 8;
+}

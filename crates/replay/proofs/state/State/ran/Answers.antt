@@ -1,36 +1,40 @@
-use Rattle.std.proofs.Common.{◌||◌, [], map, length, get_or, vec_items, sym, refl, ap, ◌∙◌, arith}
-use Rattle.ledger.specs.Ledgers.{update}
-use Rattle.replay.specs.Views.{has_bit, noted_in}
-use Rattle.replay.proofs.Bits.{bit_written, none_written}
-use Rattle.replay.proofs.Stating.{local_ran, noted_more, one_of_all, present_same, thread_viewed}
+use Rattle.std.proofs.Common.{◌≡◌, [], length, get_or, map, refl, ap, ◌∙◌, arith}
+use Rattle.std.proofs.lemmas.List.{length_push}
+use Rattle.std.proofs.lemmas.List.Sums.{sum_by-set}
+use Rattle.replay.specs.Views.{noted_in}
+use Rattle.replay.proofs.Stating.{delayed_more, how_many_kept, kept, kept_noted, local_ran, noted_more, one_of_all, present_same, thread_viewed}
 use Rattle.replay.proofs.state.State.ran.Goals as goal
 
 pub run-requires : goal.run-requires
 run-requires c =
     let state = c.args.self.now in
-    let t = c.args.thread in
-    let noted = thread_viewed noted_in state t c.index_mut.result.now [] c.requires.thread c.index_mut.ensures.value in
-    let no_more = one_of_all (λ u. length (get_or (map noted_in (vec_items state.threads)) u [])) t c.requires.thread in
-    record { ranged = c.requires.ranged; room = omega (arith, ap length noted, no_more, c.requires.room) }
+    let t = c.args.turn.thread in
+    let eight : length state.threads ≡ 8 = omega arith in
+    let noted = thread_viewed noted_in state t c.index-self-turn.result [] (omega (arith, eight, c.args.turn.below)) c.index-self-turn.is in
+    let no_more = one_of_all (λ u. length (get_or (map noted_in state.threads) u [])) t c.args.turn.below in
+    let same = ap (λ own. length (noted_in own)) c.index-self-turn.is in
+    omega (arith, ap length noted, no_more, c.requires, same)
 
-pub returns-then-delays : goal.returns-then-delays
-returns-then-delays c =
+pub invariant_of-self : goal.invariant_of-self
+invariant_of-self c =
     let state = c.args.self.now in
-    let t = c.args.thread in
-    let before = c.index_mut.result.now in
-    present_same
-    (local_ran state t before c.run.new.self c.args.action c.requires.thread c.index_mut.ensures.value c.args.line c.run.ensures.local)
-    refl
-    (noted_more state t before c.run.new.self c.args.action c.requires.thread c.index_mut.ensures.value c.run.ensures.noted)
-    (bit_written state.delayed t c.requires.thread ∙ ap (λ b. update (λ u. has_bit u state.delayed) t (has_bit t state.delayed || b)) (sym c.if-delays.true))
+    let t = c.args.turn.thread in
+    let eight : length state.threads ≡ 8 = omega arith in
+    let before = get_or state.threads t c.index-self-turn.result in
+    let after = c.run.new.self in
+    let changed = sum_by-set kept state.threads t after c.index-self-turn.result (omega (arith, eight, c.args.turn.below)) in
+    let more = ap length c.run.ensures.noted ∙ length_push (noted_in before) _ in
+    record { few = omega (arith, changed, more, kept_noted before, kept_noted after, how_many_kept state eight, c.requires) }
 
-pub returns-else-delays : goal.returns-else-delays
-returns-else-delays c =
+pub returns : goal.returns
+returns c =
     let state = c.args.self.now in
-    let t = c.args.thread in
-    let before = c.index_mut.result.now in
+    let t = c.args.turn.thread in
+    let eight : length state.threads ≡ 8 = omega arith in
+    let before = get_or state.threads t c.index-self-turn.result in
+    let is : before ≡ get_or state.threads t before = ap (get_or state.threads t) c.index-self-turn.is in
     present_same
-    (local_ran state t before c.run.new.self c.args.action c.requires.thread c.index_mut.ensures.value c.args.line c.run.ensures.local)
+    (local_ran state t before c.run.new.self c.args.action (omega (arith, eight, c.args.turn.below)) is c.args.turn.line c.run.ensures.local)
     refl
-    (noted_more state t before c.run.new.self c.args.action c.requires.thread c.index_mut.ensures.value c.run.ensures.noted)
-    (none_written (λ u. has_bit u state.delayed) t ∙ ap (λ b. update (λ u. has_bit u state.delayed) t (has_bit t state.delayed || b)) (sym c.if-delays.false))
+    (noted_more state t before c.run.new.self c.args.action (omega (arith, eight, c.args.turn.below)) is c.run.ensures.noted)
+    (delayed_more state t before c.run.new.self c.args.action (omega (arith, eight, c.args.turn.below)) is c.args.delays c.run.ensures.delayed)

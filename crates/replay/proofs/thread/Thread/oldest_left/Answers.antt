@@ -1,22 +1,12 @@
-use Rattle.std.proofs.Common.{map, sym, ap, ◌∙◌}
-use Rattle.present.specs.Data.{oldest_left}
+use Rattle.std.proofs.Common.{rules, vec_items}
+use Rattle.std.proofs.iter.runs.Made.{chains}
+use Rattle.present.specs.Data.{left_waiting}
 use Rattle.replay.specs.Views.{noted_of}
-use Rattle.replay.proofs.Keeping.{blank, oldest_here, oldest_later, oldest_none}
+use Rattle.replay.proofs.Keeping.{IsFirst, oldest_is}
 use Rattle.replay.proofs.thread.Thread.oldest_left.Goals as goal
-
-pub returns-then-left_waiting : goal.returns-then-left_waiting
-returns-then-left_waiting c =
-    sym (oldest_here c.args.cell c.deref-action-items.result.now c.loop-position.position blank c.loop-position-test.true (sym c.if-left_waiting.ensures))
-    ∙ c.loop-position.invariant
-    ∙ ap (λ xs. oldest_left 0 c.args.cell (map noted_of xs)) c.deref-action-items.ensures.value
-
-pub loop-position-preserved : goal.loop-position-preserved
-loop-position-preserved c =
-    sym (oldest_later c.args.cell c.deref-action-items.result.now c.loop-position.position blank c.loop-position-test.true (sym c.if-left_waiting.ensures))
-    ∙ c.loop-position.invariant
 
 pub returns : goal.returns
 returns c =
-    sym (oldest_none c.args.cell c.deref-action-items.result.now c.loop-position.position blank c.loop-position-test.false)
-    ∙ c.loop-position.invariant
-    ∙ ap (λ xs. oldest_left 0 c.args.cell (map noted_of xs)) c.deref-action-items.ensures.value
+    let xs = vec_items c.args.self.now.actions in
+    let found : IsFirst (λ x. left_waiting c.args.cell (noted_of x)) xs c.position.result = search (rules, chains) in
+    oldest_is c.args.cell xs c.position.result found
