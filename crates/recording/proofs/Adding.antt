@@ -1,5 +1,6 @@
 -- Adding the instructions of a recording, record by record.
-use Rattle.std.proofs.Common.{◌≡◌, ℕ, ◌≤◌, Bool, true, false, cond, leb, List, [], ◌∷◌, ◌++◌, length, Some, None, Ok, Err, Result, sym, refl, ap, ◌∙◌, subst, arith}
+use Rattle.std.proofs.Common.{◌≡◌, ℕ, ◌≤◌, Bool, true, false, cond, leb, List, [], ◌∷◌, ◌++◌, length, Some, None, Ok, Err, Option, Result, sym, refl, ap, ◌∙◌, subst, arith}
+use Rattle.std.specs.Option.{ok_or}
 use Rattle.refusal.specs.declared.Refusal.{Refusal}
 use Rattle.refusal.specs.declared.Refusal.TheVariants.{ProgramFull, FieldOutOfRange}
 use Rattle.program.specs.Programs.{Added}
@@ -15,6 +16,11 @@ use Rattle.recording.specs.declared.records.Record.{Record}
 use Rattle.recording.specs.declared.records.Record.TheVariants.{Setup, Instruction, Run, Drain}
 use Rattle.recording.specs.declared.records.Setup.{Setup as Setup'}
 use Rattle.recording.proofs.Following.{cut, over, steps_on, stops}
+
+-- What an option gives was in it.
+pub was_some : {A E : Type 0} (o : Option A) (x : A) (e : E) → Ok x ≡ ok_or o e → o ≡ Some x
+was_some (Some y) x e is = let same : y ≡ x = cc in ap Some same
+was_some {A} {E} None x e is = absurd (let z : ◌≡◌ {A = ℕ} 0 1 = cc in omega (arith, z))
 
 -- A line that the program takes is the one that the record adds,
 pub taken : (ls after : List Line) (l : Line) (n : ℕ) → Added ls l (Ok n) after → line_tested ls (Some l) ≡ Ok after

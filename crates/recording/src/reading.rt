@@ -12,12 +12,15 @@ use super::layout::first_record;
 use super::records::{Fields, Kind, Record, Setup};
 use buffers::{Direct, PerCell, Queue, StoreBuffer, StrongCells};
 use ledger::Move;
-use program::Program;
+use program::{Line, Program};
 use refusal::Refusal;
 use replay::{Name, Replay, Verdict};
 use std::alloc::Global;
 
 const CELLS: usize = 16;
+
+// the most lines that a program has
+const LINES: usize = 128;
 
 const FIRST: Place = Place { index: 0, byte: 0 };
 
@@ -137,13 +140,10 @@ fn read_setup(recording: &[u8]) -> Result<Setup, Failure>
 fn add_line(program: &mut Program, fields: Fields) -> Result<(), Refusal>
     ensures { LineAdded (lines_of program.old) fields result (lines_of program.new) }
 {
-    let Some(line) = fields.line() else {
-        return Err(if program.len() >= 128 {
-            Refusal::ProgramFull
-        } else {
-            Refusal::FieldOutOfRange
-        });
-    };
+    if program.len() >= LINES {
+        return Err(Refusal::ProgramFull);
+    }
+    let line = Line::try_from(fields)?;
     program.add(line)?;
     Ok(())
 }
