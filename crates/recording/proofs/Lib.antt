@@ -5,3 +5,4 @@ pub mod Judging
 pub mod Layouts
 pub mod Lengths
 pub mod Moving
+pub mod Placing

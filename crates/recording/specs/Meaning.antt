@@ -2,6 +2,7 @@
 -- operand_at        an operand by its tag: one of eight registers, or a constant
 -- line_at           the line that an instruction's fields say, if its form, operation and tags are known and every field that the form
 --                   does not use is 0
+-- move_of           the move that a record offers, if it offers one
 -- records           the records of a recording, one after another; where one is at fault, its refusal ends them
 -- Phase             how far a recording has come: nothing yet; the setup and some lines; those and some moves
 -- stepped           the phase after one record more, or the refusal: its place, then what the program or the replay says to it
@@ -120,6 +121,12 @@ kind_rules PerCell = per_cell
 
 abbrev pub rules_of : Setup' → Rules
 rules_of s = strong (chosen_by s.strong) (kind_rules s.kind)
+
+abbrev pub move_of : Record → Option Move
+move_of (Setup s) = None
+move_of (Added f) = None
+move_of (Run t n) = Some (Runs t n)
+move_of (Drain t c) = Some (Drains t c)
 
 pub data Phase : Type 0 where
   begun : Phase
