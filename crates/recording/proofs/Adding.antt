@@ -1,21 +1,20 @@
 -- Adding the instructions of a recording, record by record.
-use Rattle.std.proofs.Common.{◌≡◌, ℕ, ◌≤◌, Bool, true, false, cond, leb, List, [], ◌∷◌, ◌++◌, length, Some, None, Ok, Err, Option, Result, sym, refl, ap, ◌∙◌, subst, arith}
+use Rattle.std.proofs.Common.{◌≡◌, ℕ, Bool, true, false, cond, leb, List, [], ◌∷◌, ◌++◌, length, Some, None, Ok, Err, Option, sym, ap, ◌∙◌, subst, arith}
 use Rattle.std.specs.Option.{ok_or}
 use Rattle.refusal.specs.declared.Refusal.{Refusal}
 use Rattle.refusal.specs.declared.Refusal.TheVariants.{ProgramFull, FieldOutOfRange}
 use Rattle.program.specs.Programs.{Added}
 use Rattle.program.specs.Ranges.{in_range}
 use Rattle.program.specs.declared.lines.Line.{Line}
-use Rattle.recording.specs.Meaning.{Phase, added, adding, fault, line_at, line_tested, moving, reading, stepped}
-use Rattle.recording.specs.Steps.{AtFault, Peeked, Starts, adding_from, moving_from, past_of}
+use Rattle.recording.specs.Meaning.{added, adding, fault, line_at, line_tested, reading}
+use Rattle.recording.specs.Steps.{AtFault, Peeked, Starts, adding_from, past_of}
 use Rattle.recording.specs.declared.faults.Failure.{Failure}
 use Rattle.recording.specs.declared.faults.Failure.TheVariants.{At, Memory}
 use Rattle.recording.specs.declared.faults.Place.{Place}
 use Rattle.recording.specs.declared.records.Fields.{Fields}
-use Rattle.recording.specs.declared.records.Record.{Record}
-use Rattle.recording.specs.declared.records.Record.TheVariants.{Setup, Instruction, Run, Drain}
+use Rattle.recording.specs.declared.records.Record.TheVariants.{Instruction}
 use Rattle.recording.specs.declared.records.Setup.{Setup as Setup'}
-use Rattle.recording.proofs.Following.{cut, over, steps_on, stops}
+use Rattle.recording.proofs.Following.{cut, steps_on, stops}
 
 -- What an option gives was in it.
 pub was_some : {A E : Type 0} (o : Option A) (x : A) (e : E) → Ok x ≡ ok_or o e → o ≡ Some x
@@ -44,10 +43,6 @@ not_taken ls after l r so = go (leb 128 (length ls)) (in_range l) so.value
 pub record AddingOn (bs : List ℕ) (start : Place) (before : List Line) (place : Place) (ls : List Line) : Type 0 where
   pub reads : (s : Setup') → adding_from bs start before s ≡ adding_from bs place ls s
 
--- At the start nothing is added.
-pub adding_none : (bs : List ℕ) (start : Place) (before : List Line) → AddingOn bs start before start before
-adding_none bs start before = record { reads = λ s. refl }
-
 module _ (bs : List ℕ) (start : Place) (before : List Line) (place : Place) (ls : List Line) (so : AddingOn bs start before place ls) where
   -- One instruction more,
   pub adding_more : (f : Fields) (after : List Line) → Peeked bs place (Ok (Some (Instruction f))) → line_tested ls (line_at f) ≡ Ok after → AddingOn bs start before (past_of place (Instruction f)) after
@@ -65,29 +60,6 @@ module _ (bs : List ℕ) (start : Place) (before : List Line) (place : Place) (l
       subst (λ f. adding_from bs start before s ≡ fault f.refusal f.place.index f.place.byte) (sym here.1)
       (so.reads s ∙ cut (adding s ls) place.index place.byte bs here.0 here.2)
   adding_cut Memory here s = absurd here
-
-  -- at the end of the recording there are no moves;
-  pub adding_over : Peeked bs place (Ok None) → (s : Setup') → adding_from bs start before s ≡ moving_from bs place ls [] s
-  adding_over here s = so.reads s ∙ over (adding s ls) place.index place.byte bs here ∙ sym (over (moving s ls []) place.index place.byte bs here)
-
-  -- and any other record steps as it does where the moves begin,
-  same_step : (s : Setup') (r : Record) → ((f : Fields) → r ≡ Instruction f → ⊥) → stepped (adding s ls) r ≡ stepped (moving s ls []) r
-  same_step s (Setup again) other = refl
-  same_step s (Instruction f) other = absurd (other f refl)
-  same_step s (Run t n) other = refl
-  same_step s (Drain t c) other = refl
-
-  -- so that the meaning goes on there.
-  pub adding_ends : (r : Record) → ((f : Fields) → r ≡ Instruction f → ⊥) → Peeked bs place (Ok (Some r)) → (s : Setup') → adding_from bs start before s ≡ moving_from bs place ls [] s
-  adding_ends r other here s = so.reads s ∙ go (stepped (moving s ls []) r) refl
-    where
-      go : (o : Result Phase Refusal) → stepped (moving s ls []) r ≡ o → adding_from bs place ls s ≡ moving_from bs place ls [] s
-      go (Ok next) is =
-          steps_on (adding s ls) place.index place.byte bs r next here.0 (same_step s r other ∙ is)
-          ∙ sym (steps_on (moving s ls []) place.index place.byte bs r next here.0 is)
-      go (Err e) is =
-          stops (adding s ls) place.index place.byte bs r e here.0 (same_step s r other ∙ is)
-          ∙ sym (stops (moving s ls []) place.index place.byte bs r e here.0 is)
 
 -- A recording that begins with a setup means what its instructions mean from behind it on, in a program with no line.
 pub reads_on : (bs : List ℕ) (p : Place) (s : Setup') (ls : List Line) → Starts bs p s → ls ≡ [] → reading bs ≡ adding_from bs p ls s

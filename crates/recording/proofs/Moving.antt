@@ -106,10 +106,6 @@ module _ (rules : Rules) (lawful : Lawful rules) (ls : List Line) (bs : List ℕ
       ∙ stops (moving s ls ms) place.index place.byte bs r e here.0
       (step_by s ls ms r ∙ ap (step_with s ls ms) is ∙ ap (moved_by s ls ms m) (subst (λ (k : Rules). tested k ls (ledger_of ls ms) m ≡ Some e) rule failed))
 
-  -- a record may offer none;
-  pub going_astray : (r : Record) → Peeked bs place (Ok (Some r)) → move_of r ≡ None → (s : Setup') → rules ≡ rules_of s → moving_from bs start ls [] s ≡ fault RecordOutOfPlace place.index place.byte
-  going_astray r here is s rule = going.reads s rule ∙ stops (moving s ls ms) place.index place.byte bs r RecordOutOfPlace here.0 (no_step s ls ms r is)
-
   -- or be at fault.
   pub going_cut : (e : Failure) → Peeked bs place (Err e) → (s : Setup') → rules ≡ rules_of s → AtFault (moving_from bs start ls [] s) e
   going_cut (At f) here s rule =

@@ -18,7 +18,6 @@ use Rattle.recording.specs.declared.faults.Failure.TheVariants.{At, Memory}
 use Rattle.recording.specs.declared.faults.Place.{Place}
 use Rattle.recording.specs.declared.records.Fields.{Fields}
 use Rattle.recording.specs.declared.records.Record.{Record}
-use Rattle.recording.specs.declared.records.Record.TheVariants.{Setup, Instruction, Run, Drain}
 use Rattle.recording.specs.declared.records.Setup.{Setup as Setup'}
 
 abbrev pub past_of : Place → Record → Place

@@ -1,8 +1,8 @@
-use Rattle.std.proofs.Common.{◌≡◌, List, Some, Ok, Err, Result, sym, ap, ◌∙◌, subst}
+use Rattle.std.proofs.Common.{◌≡◌, Some, Ok, Err, sym, ap, ◌∙◌, subst}
 use Rattle.std.proofs.lemmas.Result.{err_from_is_err_and}
 use Rattle.program.specs.Programs.{lines_of}
 use Rattle.recording.specs.Meaning.{line_at, line_tested}
-use Rattle.recording.specs.Steps.{Adds, LineAdded, Peeked, adding_from}
+use Rattle.recording.specs.Steps.{Adds, LineAdded, Peeked}
 use Rattle.recording.specs.declared.faults.Place.{Place}
 use Rattle.recording.specs.declared.records.Record.TheVariants.{Instruction}
 use Rattle.recording.proofs.Adding.{AddingOn, adding_more, adding_refused}

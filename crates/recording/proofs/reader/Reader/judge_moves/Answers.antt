@@ -6,7 +6,6 @@ use Rattle.program.specs.declared.lines.Line.{Line}
 use Rattle.buffers.specs.Laws.{Rules}
 use Rattle.present.specs.Data.{Held}
 use Rattle.replay.specs.Offers.{Offered}
-use Rattle.replay.specs.Verdicts.{JudgedHeld}
 use Rattle.replay.specs.Views.{held}
 use Rattle.recording.specs.Meaning.{move_of}
 use Rattle.recording.specs.Steps.{Peeked, moving_from}

@@ -4,8 +4,6 @@ use Rattle.std.proofs.lemmas.Bool.{eqb-false}
 use Rattle.std.proofs.lemmas.Result.{err_from_is_err_and}
 use Rattle.recording.specs.Layout.{first_record}
 use Rattle.recording.specs.Steps.{Peeked}
-use Rattle.recording.specs.Verdicts.{fault_at}
-use Rattle.recording.specs.declared.faults.Failure.TheVariants.{At}
 use Rattle.recording.proofs.Following.{first_within, records_err}
 use Rattle.recording.proofs.Placing.{placed_err, placed_ok}
 use Rattle.recording.proofs.reader.Reader.peek.Goals as goal
