@@ -13,6 +13,7 @@
 use Rattle.std.specs.Prelude.{ℕ, zero, suc, ◌+◌, Bool, cond, ◌&&◌, List, [], ◌∷◌, ◌++◌, map, length, drop, Some, None, Ok, Err, Option, Result, ◌==◌, nat_le, nat_lt}
 use Rattle.refusal.specs.declared.Refusal.{Refusal}
 use Rattle.refusal.specs.declared.Refusal.TheVariants.{ProgramFull, FieldOutOfRange, RecordOutOfPlace}
+use Rattle.program.specs.Operations.{numbered}
 use Rattle.program.specs.Ranges.{in_range}
 use Rattle.program.specs.declared.forms.Instruction.{Instruction}
 use Rattle.program.specs.declared.forms.Instruction.TheVariants.{Load, Store, Fence, Compute, Assert}
@@ -20,7 +21,6 @@ use Rattle.program.specs.declared.forms.Operand.{Operand}
 use Rattle.program.specs.declared.forms.Operand.TheVariants.{Register, Constant}
 use Rattle.program.specs.declared.lines.Line.{Line}
 use Rattle.program.specs.declared.operations.Operation.{Operation}
-use Rattle.program.specs.declared.operations.Operation.TheVariants.{Sum, Difference, And, ExclusiveOr, Equal, Less}
 use Rattle.buffers.specs.Kinds.{direct, per_cell, queue, strong}
 use Rattle.buffers.specs.Laws.{Rules}
 use Rattle.ledger.specs.Moves.{ledger_of}
@@ -42,13 +42,7 @@ operand_at (suc zero) v = Some (Constant v)
 operand_at (suc (suc tag)) v = None
 
 abbrev pub operation_at : ℕ → Option Operation
-operation_at zero = Some Sum
-operation_at (suc zero) = Some Difference
-operation_at (suc (suc zero)) = Some And
-operation_at (suc (suc (suc zero))) = Some ExclusiveOr
-operation_at (suc (suc (suc (suc zero)))) = Some Equal
-operation_at (suc (suc (suc (suc (suc zero))))) = Some Less
-operation_at (suc (suc (suc (suc (suc (suc n)))))) = None
+operation_at n = numbered n
 
 -- the field is not used, and is 0
 abbrev pub unused : ℕ → Bool

@@ -2,7 +2,7 @@
 ghost use Rattle.std.specs.Prelude.{◌≡◌};
 ghost use Rattle.std.specs.Option.{ok_or};
 ghost use Rattle.refusal.specs.declared.Refusal.TheVariants.{FieldOutOfRange};
-ghost use Rattle.recording.specs.Meaning.{instruction_at, line_at, operand_at, operation_at};
+ghost use Rattle.recording.specs.Meaning.{instruction_at, line_at, operand_at};
 
 use super::records::Fields;
 use program::{Instruction, Line, Operand, Operation};
@@ -19,20 +19,6 @@ fn operand(tag: u8, value: u32) -> Option<Operand>
     }
 }
 
-fn operation(number: u8) -> Option<Operation>
-    ensures { result ≡ operation_at number }
-{
-    match number {
-        0 => Some(Operation::Sum),
-        1 => Some(Operation::Difference),
-        2 => Some(Operation::And),
-        3 => Some(Operation::ExclusiveOr),
-        4 => Some(Operation::Equal),
-        5 => Some(Operation::Less),
-        _ => None,
-    }
-}
-
 // The line, if its form, operation and tags are known and every field that its form does not use is 0.
 impl TryFrom<Fields> for Line {
     type Error = Refusal;
@@ -41,12 +27,7 @@ impl TryFrom<Fields> for Line {
 
     fn try_from(fields: Fields) -> Result<Line, Refusal> {
         let instruction = fields.instruction().ok_or(Refusal::FieldOutOfRange)?;
-        Ok(Line {
-            thread: fields.thread,
-            label: fields.label,
-            next: fields.next,
-            instruction,
-        })
+        Ok(Line::new(fields.thread, fields.label, fields.next, instruction))
     }
 }
 
@@ -103,7 +84,7 @@ impl Fields {
                 ..
             } => Some(Instruction::Compute {
                 register,
-                operation: operation(number)?,
+                operation: Operation::try_from(number).ok()?,
                 a: operand(tag_a, a)?,
                 b: operand(tag_b, b)?,
             }),
