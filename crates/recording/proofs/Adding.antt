@@ -1,5 +1,5 @@
 -- Adding the instructions of a recording, record by record.
-use Rattle.std.proofs.Common.{◌≡◌, ℕ, Bool, true, false, cond, leb, List, [], ◌∷◌, ◌++◌, length, Some, None, Ok, Err, Option, sym, ap, ◌∙◌, subst, arith}
+use Rattle.std.proofs.Common.{◌≡◌, ℕ, Bool, true, false, cond, leb, List, [], ◌∷◌, ◌++◌, length, Some, None, Ok, Err, Option, sym, ap, ◌∙◌, subst}
 use Rattle.std.specs.Option.{ok_or}
 use Rattle.refusal.specs.declared.Refusal.{Refusal}
 use Rattle.refusal.specs.declared.Refusal.TheVariants.{ProgramFull, FieldOutOfRange}
@@ -18,26 +18,26 @@ use Rattle.recording.proofs.Following.{cut, steps_on, stops}
 
 -- What an option gives was in it.
 pub was_some : {A E : Type 0} (o : Option A) (x : A) (e : E) → Ok x ≡ ok_or o e → o ≡ Some x
-was_some (Some y) x e is = let same : y ≡ x = cc in ap Some same
-was_some {A} {E} None x e is = absurd (let z : ◌≡◌ {A = ℕ} 0 1 = cc in omega (arith, z))
+was_some (Some y) x e is = cc
+was_some None x e is = absurd cc
 
 -- A line that the program takes is the one that the record adds,
 pub taken : (ls after : List Line) (l : Line) (n : ℕ) → Added ls l (Ok n) after → line_tested ls (Some l) ≡ Ok after
 taken ls after l n so = go (leb 128 (length ls)) (in_range l) so.value
   where
     go : (full ranged : Bool) → Ok n ≡ cond full (Err ProgramFull) (cond ranged (Ok (length ls)) (Err FieldOutOfRange)) → cond full (Err ProgramFull) (cond ranged (Ok (ls ++ l ∷ [])) (Err FieldOutOfRange)) ≡ Ok after
-    go true ranged is = absurd (let z : ◌≡◌ {A = ℕ} 0 1 = cc in omega (arith, z))
+    go true ranged is = absurd cc
     go false true is = ap Ok (sym so.lines)
-    go false false is = absurd (let z : ◌≡◌ {A = ℕ} 0 1 = cc in omega (arith, z))
+    go false false is = absurd cc
 
 -- and one that it refuses is refused for the record.
 pub not_taken : (ls after : List Line) (l : Line) (r : Refusal) → Added ls l (Err r) after → line_tested ls (Some l) ≡ Err r
 not_taken ls after l r so = go (leb 128 (length ls)) (in_range l) so.value
   where
     go : (full ranged : Bool) → Err r ≡ cond full (Err ProgramFull) (cond ranged (Ok (length ls)) (Err FieldOutOfRange)) → cond full (Err ProgramFull) (cond ranged (Ok (ls ++ l ∷ [])) (Err FieldOutOfRange)) ≡ Err r
-    go true ranged is = (let same : ProgramFull ≡ r = cc in ap Err same)
-    go false true is = absurd (let z : ◌≡◌ {A = ℕ} 0 1 = cc in omega (arith, z))
-    go false false is = (let same : FieldOutOfRange ≡ r = cc in ap Err same)
+    go true ranged is = cc
+    go false true is = absurd cc
+    go false false is = cc
 
 -- the records from start to place were instructions, and with their lines added the meaning goes on at place
 pub record AddingOn (bs : List ℕ) (start : Place) (before : List Line) (place : Place) (ls : List Line) : Type 0 where

@@ -113,7 +113,7 @@ spread n bs h = sym (take-append-drop n bs) ∙ ap (λ xs. xs ++ drop n bs) (fil
 
 -- Nothing is refused and read.
 refused_read : {A : Type 0} (e : Refusal) (r : Record) → ◌≡◌ {A = Result Record Refusal} (Err e) (Ok r) → A
-refused_read e r p = let z : ◌≡◌ {A = ℕ} 0 1 = cc in absurd (omega (arith, z))
+refused_read e r p = absurd cc
 
 -- What a test lets through was long enough, and is what stands behind the test.
 let_through : (n : ℕ) (bs : List ℕ) (x : Result Record Refusal) (r : Record) → cond (leb n (length bs)) x (Err RecordCutShort) ≡ Ok r → (n ≤ length bs) × (x ≡ Ok r)
@@ -140,7 +140,7 @@ announced l k s p = by (eqb l 8 && eqb k 1) (eqb l 20 && eqb k 2) (eqb l 6 && eq
   by false true t₃ t₄ e₁ e₂ e₃ e₄ q = subst Its (same instruction q) (both 20 2 e₂)
   by false false true t₄ e₁ e₂ e₃ e₄ q = subst Its (same run q) (both 6 3 e₃)
   by false false false true e₁ e₂ e₃ e₄ q = subst Its (same drain q) (both 6 4 e₄)
-  by false false false false e₁ e₂ e₃ e₄ q = let z : ◌≡◌ {A = ℕ} 0 1 = cc in absurd (omega (arith, z))
+  by false false false false e₁ e₂ e₃ e₄ q = absurd cc
 
 -- What a record read from bytes of a shape is: one of that shape, whose fields are those bytes.
 record Body (s : Shape) (bs : List ℕ) (r : Record) : Type 0 where
@@ -150,10 +150,10 @@ record Body (s : Shape) (bs : List ℕ) (r : Record) : Type 0 where
 
 -- The byte of a kind that is read.
 kind_from : (n : ℕ) (k : Kind) → kind_at n ≡ Some k → n ≡ kind_byte k
-kind_from zero k p = let e : Direct ≡ k = cc in ap kind_byte e
-kind_from (suc zero) k p = let e : Queue ≡ k = cc in ap kind_byte e
-kind_from (suc (suc zero)) k p = let e : PerCell ≡ k = cc in ap kind_byte e
-kind_from (suc (suc (suc n))) k p = let z : ◌≡◌ {A = ℕ} 0 1 = cc in absurd (omega (arith, z))
+kind_from zero k p = cc
+kind_from (suc zero) k p = cc
+kind_from (suc (suc zero)) k p = cc
+kind_from (suc (suc (suc n))) k p = absurd cc
 
 -- A setup that is read.
 setup_from : (bs : List ℕ) (r : Record) → AllByRecursion (λ b. b < 256) bs → 4 ≤ length bs → body_at setup bs ≡ Ok r → Body setup bs r

@@ -48,12 +48,12 @@ no_step s ls ms r is = step_by s ls ms r ∙ ap (step_with s ls ms) is
 -- A move that is answered with a value passed its test,
 tested_ok : (o : Option Refusal) (v w : ℕ) → Ok v ≡ answered o w → o ≡ None
 tested_ok None v w is = refl
-tested_ok (Some r) v w is = absurd (let z : ◌≡◌ {A = ℕ} 0 1 = cc in omega (arith, z))
+tested_ok (Some r) v w is = absurd cc
 
 -- and one that is refused did not.
 tested_err : (o : Option Refusal) (r : Refusal) (w : ℕ) → Err r ≡ answered o w → o ≡ Some r
-tested_err None r w is = absurd (let z : ◌≡◌ {A = ℕ} 0 1 = cc in omega (arith, z))
-tested_err (Some e) r w is = (let same : e ≡ r = cc in ap Some same)
+tested_err None r w is = absurd cc
+tested_err (Some e) r w is = cc
 
 -- A reading at a fault is told as that fault.
 pub fault_read : (read : Reading) (bytes : ℕ) (list : List Name) (e : Failure) → AtFault read e → ReadAs read bytes list (Err e) list

@@ -1,4 +1,5 @@
-// Reading a recording in place, record by record.
+// Reading a recording in place, record by record. An iterator would be no plainer: the first move is looked at twice, once to end the
+// instructions, and a refusal needs the place of the record that is looked at.
 ghost use Rattle.std.specs.Prelude.{◌≡◌, ◌+◌, ◌≤◌, length};
 ghost use Rattle.recording.specs.Layout.{size as record_size};
 ghost use Rattle.recording.specs.Steps.{Peeked, past_of, placed_at};
