@@ -1,6 +1,7 @@
 // Instructions with one field changed: a setup and one instruction, and no moves.
 use super::showing::show_text;
-use super::tape::{QUEUE, add_instruction, begun};
+use super::tape::{add_instruction, begun};
+use recording::Kind;
 
 // where the fields stand in an instruction's record, behind its length and kind
 const THREAD: usize = 0;
@@ -53,14 +54,14 @@ fn show_field(
         *byte = value;
     }
     println!(rt; "== {name}, byte {at} is {value}")?;
-    let mut tape = begun(rt.alloc(), QUEUE, [0, 0])?;
+    let mut tape = begun(rt.alloc(), Kind::Queue, [0, 0])?;
     add_instruction(&mut tape, fields)?;
     show_text(rt, tape.as_slice())
 }
 
 // Every byte set to 255, one at a time.
 fn show_bytes(rt: &HostRuntime, name: &str, fields: [u8; 16]) -> anyhow::Result<()> {
-    for at in 0..16 {
+    for at in 0..fields.len() {
         show_field(rt, name, fields, at, 255)?;
     }
     Ok(())

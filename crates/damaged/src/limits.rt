@@ -1,13 +1,13 @@
 // Programs of 128 lines, sixteen waiting stores and runs of 256 actions, and one more of each.
-use super::showing::show_tape;
+use super::showing::{show_behind, show_tape};
 use super::tape::{
-    DIRECT, QUEUE, Step, add_instruction, add_step, add_steps, begun, drain, fence, load, run,
-    store,
+    Step, add_instruction, add_step, add_steps, begun, drain, fence, load, run, store,
 };
+use recording::Kind;
 use std::alloc::{AllocError, Global};
 
 // A setup and that many fences of thread 0, which stays at label 0.
-fn fences(heap: Global, kind: u8, count: usize) -> Result<Vec<u8>, AllocError> {
+fn fences(heap: Global, kind: Kind, count: usize) -> Result<Vec<u8>, AllocError> {
     let mut tape = begun(heap, kind, [0, 0])?;
     for _ in 0..count {
         add_instruction(&mut tape, fence([0, 0, 0]))?;
@@ -17,9 +17,8 @@ fn fences(heap: Global, kind: u8, count: usize) -> Result<Vec<u8>, AllocError> {
 
 // That many fences, and these bytes behind them.
 fn show_fences(rt: &HostRuntime, name: &str, count: usize, last: &[u8]) -> anyhow::Result<()> {
-    let mut tape = fences(rt.alloc(), QUEUE, count)?;
-    tape.extend_from_slice(last)?;
-    show_tape(rt, name, tape.as_slice())
+    let tape = fences(rt.alloc(), Kind::Queue, count)?;
+    show_behind(rt, name, tape.as_slice(), last)
 }
 
 fn show_lines(rt: &HostRuntime) -> anyhow::Result<()> {
@@ -61,7 +60,7 @@ fn add_often(tape: &mut Vec<u8>, step: Step, times: usize) -> Result<(), AllocEr
 
 // Sixteen stores of thread 0 to cell 0 that wait, then these moves, then that many drains of cell 0.
 fn show_waiting(rt: &HostRuntime, name: &str, steps: &[Step], drains: usize) -> anyhow::Result<()> {
-    let mut tape = begun(rt.alloc(), QUEUE, [0, 0])?;
+    let mut tape = begun(rt.alloc(), Kind::Queue, [0, 0])?;
     add_instruction(&mut tape, store([0, 0, 0], 0, 1))?;
     add_instruction(&mut tape, store([0, 0, 0], 16, 1))?;
     add_instruction(&mut tape, load([0, 0, 0], 0, 0))?;
@@ -85,7 +84,7 @@ fn show_stores(rt: &HostRuntime) -> anyhow::Result<()> {
 fn show_actions(
     rt: &HostRuntime,
     name: &str,
-    kind: u8,
+    kind: Kind,
     count: usize,
     steps: &[Step],
 ) -> anyhow::Result<()> {
@@ -100,7 +99,7 @@ fn show_actions(
 
 // The longest recording that gets a verdict, 5640 bytes, and one move more: 128 lines, 256 stores of thread 7, each drained.
 fn show_longest(rt: &HostRuntime, name: &str, more: &[Step]) -> anyhow::Result<()> {
-    let mut tape = fences(rt.alloc(), DIRECT, 127)?;
+    let mut tape = fences(rt.alloc(), Kind::Direct, 127)?;
     add_instruction(&mut tape, store([7, 0, 0], 0, 1))?;
     for _ in 0..256 {
         add_steps(&mut tape, &[run(7, 127), drain(7, 0)])?;
@@ -112,18 +111,18 @@ fn show_longest(rt: &HostRuntime, name: &str, more: &[Step]) -> anyhow::Result<(
 pub(super) fn show(rt: &HostRuntime) -> anyhow::Result<()> {
     show_lines(rt)?;
     show_stores(rt)?;
-    show_actions(rt, "6: 257 actions", QUEUE, 257, &[])?;
-    show_actions(rt, "6: 65534 bytes", QUEUE, 10911, &[])?;
-    show_actions(rt, "6: 65540 bytes", QUEUE, 10912, &[])?;
-    show_actions(rt, "4 before 6", QUEUE, 256, &[run(1, 0)])?;
-    show_actions(rt, "5 before 6", QUEUE, 256, &[run(0, 2)])?;
+    show_actions(rt, "6: 257 actions", Kind::Queue, 257, &[])?;
+    show_actions(rt, "6: 65534 bytes", Kind::Queue, 10911, &[])?;
+    show_actions(rt, "6: 65540 bytes", Kind::Queue, 10912, &[])?;
+    show_actions(rt, "4 before 6", Kind::Queue, 256, &[run(1, 0)])?;
+    show_actions(rt, "5 before 6", Kind::Queue, 256, &[run(0, 2)])?;
     let full = [run(0, 1), run(0, 0)];
-    show_actions(rt, "6 before 7", DIRECT, 255, &full)?;
-    show_actions(rt, "7 and not 6", DIRECT, 254, &full)?;
+    show_actions(rt, "6 before 7", Kind::Direct, 255, &full)?;
+    show_actions(rt, "7 and not 6", Kind::Direct, 254, &full)?;
     show_actions(
         rt,
         "14: 256 actions, a store waits",
-        QUEUE,
+        Kind::Queue,
         255,
         &[run(0, 1)],
     )?;

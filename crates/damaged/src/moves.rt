@@ -1,13 +1,13 @@
 // Moves that the replay refuses, one for each refusal, beside moves that it takes.
 use super::showing::show_tape;
 use super::tape::{
-    DIRECT, PER_CELL, QUEUE, Step, add_instruction, add_steps, assert, begun, drain, fence, load,
-    run, store,
+    Step, add_instruction, add_steps, assert, begun, drain, fence, load, run, store,
 };
+use recording::Kind;
 use std::alloc::{AllocError, Global};
 
 // A setup and eleven instructions, of threads 0 to 3: the first move is record 12, at byte 228.
-pub(super) fn ways(heap: Global, kind: u8, strong: [u8; 2]) -> Result<Vec<u8>, AllocError> {
+pub(super) fn ways(heap: Global, kind: Kind, strong: [u8; 2]) -> Result<Vec<u8>, AllocError> {
     let mut tape = begun(heap, kind, strong)?;
     add_instruction(&mut tape, store([0, 0, 1], 15, 5))?;
     add_instruction(&mut tape, load([0, 1, 2], 0, 15))?;
@@ -27,7 +27,7 @@ pub(super) fn ways(heap: Global, kind: u8, strong: [u8; 2]) -> Result<Vec<u8>, A
 pub(super) fn show_ways(
     rt: &HostRuntime,
     name: &str,
-    kind: u8,
+    kind: Kind,
     strong: [u8; 2],
     steps: &[Step],
 ) -> anyhow::Result<()> {
@@ -38,7 +38,7 @@ pub(super) fn show_ways(
 
 // Over queue.
 fn show_queue(rt: &HostRuntime, name: &str, steps: &[Step]) -> anyhow::Result<()> {
-    show_ways(rt, name, QUEUE, [0, 0], steps)
+    show_ways(rt, name, Kind::Queue, [0, 0], steps)
 }
 
 // Thread 0 at label 3, with nothing waiting and 5 in its register 0, and then this move.
@@ -73,14 +73,26 @@ fn show_runs(rt: &HostRuntime) -> anyhow::Result<()> {
 
 fn show_steps(rt: &HostRuntime) -> anyhow::Result<()> {
     let own = [run(0, 0), run(0, 1)];
-    show_ways(rt, "7: over direct, the same thread", DIRECT, [0, 0], &own)?;
+    show_ways(
+        rt,
+        "7: over direct, the same thread",
+        Kind::Direct,
+        [0, 0],
+        &own,
+    )?;
     let other = [run(0, 0), run(1, 7)];
-    show_ways(rt, "7: over direct, another thread", DIRECT, [0, 0], &other)?;
+    show_ways(
+        rt,
+        "7: over direct, another thread",
+        Kind::Direct,
+        [0, 0],
+        &other,
+    )?;
     let strong = [0, 128];
     show_ways(
         rt,
         "7: a store to the strong cell 15",
-        PER_CELL,
+        Kind::PerCell,
         strong,
         &own,
     )?;
@@ -88,11 +100,11 @@ fn show_steps(rt: &HostRuntime) -> anyhow::Result<()> {
     show_ways(
         rt,
         "a strong cell and another thread",
-        PER_CELL,
+        Kind::PerCell,
         strong,
         &passed,
     )?;
-    show_ways(rt, "a strong cell 14", PER_CELL, [0, 64], &own)
+    show_ways(rt, "a strong cell 14", Kind::PerCell, [0, 64], &own)
 }
 
 fn show_drains(rt: &HostRuntime) -> anyhow::Result<()> {
@@ -112,7 +124,7 @@ fn show_drains(rt: &HostRuntime) -> anyhow::Result<()> {
     show_ways(
         rt,
         "over per-cell, a younger store",
-        PER_CELL,
+        Kind::PerCell,
         [0, 0],
         &younger,
     )

@@ -1,46 +1,49 @@
 // Putting a recording together, record by record.
+use recording::Kind;
 use std::alloc::{AllocError, Global};
 
-pub(super) const DIRECT: u8 = 0;
-
-pub(super) const QUEUE: u8 = 1;
-
-pub(super) const PER_CELL: u8 = 2;
-
-// A move: its kind, 3 for a run and 4 for a drain, its thread, and an instruction or a cell.
+// A move.
 #[derive(Clone, Copy)]
-pub(super) struct Step {
-    kind: u8,
-    thread: u8,
-    number: u8,
+pub(super) enum Step {
+    Run { thread: u8, instruction: u8 },
+    Drain { thread: u8, cell: u8 },
 }
 
-pub(super) fn run(thread: u8, number: u8) -> Step {
-    Step {
-        kind: 3,
+pub(super) fn run(thread: u8, instruction: u8) -> Step {
+    Step::Run {
         thread,
-        number,
+        instruction,
     }
 }
 
-pub(super) fn drain(thread: u8, number: u8) -> Step {
-    Step {
-        kind: 4,
-        thread,
-        number,
+pub(super) fn drain(thread: u8, cell: u8) -> Step {
+    Step::Drain { thread, cell }
+}
+
+impl Step {
+    // The bytes of its record.
+    fn bytes(self) -> [u8; 6] {
+        match self {
+            Step::Run {
+                thread,
+                instruction,
+            } => [6, 0, 3, 0, thread, instruction],
+            Step::Drain { thread, cell } => [6, 0, 4, 0, thread, cell],
+        }
     }
 }
 
 // A recording that begins with that setup; the strong cells as two bytes.
-pub(super) fn begun(heap: Global, kind: u8, strong: [u8; 2]) -> Result<Vec<u8>, AllocError> {
+pub(super) fn begun(heap: Global, kind: Kind, strong: [u8; 2]) -> Result<Vec<u8>, AllocError> {
     let mut tape = Vec::new(heap);
-    add_setup(&mut tape, kind, strong)?;
+    let number = match kind {
+        Kind::Direct => 0,
+        Kind::Queue => 1,
+        Kind::PerCell => 2,
+    };
+    tape.extend_from_slice(&[8, 0, 1, 0, number, 0])?;
+    tape.extend_from_slice(&strong)?;
     Ok(tape)
-}
-
-pub(super) fn add_setup(tape: &mut Vec<u8>, kind: u8, strong: [u8; 2]) -> Result<(), AllocError> {
-    tape.extend_from_slice(&[8, 0, 1, 0, kind, 0])?;
-    tape.extend_from_slice(&strong)
 }
 
 pub(super) fn add_instruction(tape: &mut Vec<u8>, fields: [u8; 16]) -> Result<(), AllocError> {
@@ -49,7 +52,7 @@ pub(super) fn add_instruction(tape: &mut Vec<u8>, fields: [u8; 16]) -> Result<()
 }
 
 pub(super) fn add_step(tape: &mut Vec<u8>, step: Step) -> Result<(), AllocError> {
-    tape.extend_from_slice(&[6, 0, step.kind, 0, step.thread, step.number])
+    tape.extend_from_slice(&step.bytes())
 }
 
 pub(super) fn add_steps(tape: &mut Vec<u8>, steps: &[Step]) -> Result<(), AllocError> {
@@ -90,7 +93,7 @@ pub(super) fn assert(place: [u8; 3], register: u8) -> [u8; 16] {
 // Dekker over queue, both loads before the drains: 124 bytes. The setup is at 0, the instructions are at 8, 28, 48 and 68, the runs at
 // 88, 94, 100 and 106, and the drains at 112 and 118.
 pub(super) fn dekker(heap: Global) -> Result<Vec<u8>, AllocError> {
-    let mut tape = begun(heap, QUEUE, [0, 0])?;
+    let mut tape = begun(heap, Kind::Queue, [0, 0])?;
     add_instruction(&mut tape, store([0, 0, 1], 0, 1))?;
     add_instruction(&mut tape, load([0, 1, 2], 0, 1))?;
     add_instruction(&mut tape, store([1, 0, 1], 1, 1))?;

@@ -1,5 +1,5 @@
 -- The moves of a recording are accepted under the rules of its store buffer, and these rules are lawful.
-use Rattle.std.proofs.Common.{◌≡◌, ℕ, ◌+◌, true, cond, List, [], ◌∷◌, is_some, Some, None, Ok, Err, Option, Result, sym, refl, ap, subst, arith}
+use Rattle.std.proofs.Common.{◌≡◌, ℕ, ◌+◌, true, cond, List, [], ◌∷◌, is_some, Some, None, Ok, Err, Option, Result, sym, refl, ap, subst}
 use Rattle.std.proofs.lemmas.Bool.{ltb-true, true≢false}
 use Rattle.refusal.specs.declared.Refusal.{Refusal}
 use Rattle.program.specs.declared.lines.Line.{Line}
@@ -71,7 +71,7 @@ ok_same x y e = cc
 
 -- A refusal answers no phase.
 err_not : {A : Type 0} (r : Refusal) (y : A) → ◌≡◌ {A = Result A Refusal} (Err r) (Ok y) → ⊥
-err_not r y e = let z : ◌≡◌ {A = ℕ} 0 1 = cc in omega (arith, z)
+err_not r y e = cc
 
 -- One move more, which was not refused.
 going_moved : (s : Setup') (ls : List Line) (ms : List Move) (m : Move) (next : Phase) → Accepted (rules_of s) ls start ms → moved s ls ms m ≡ Ok next → Going next

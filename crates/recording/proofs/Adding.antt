@@ -1,56 +1,53 @@
 -- Adding the instructions of a recording, record by record.
-use Rattle.std.proofs.Common.{◌≡◌, ℕ, ◌≤◌, Bool, true, false, cond, leb, List, [], ◌∷◌, ◌++◌, length, Some, None, Ok, Err, Result, sym, refl, ap, ◌∙◌, subst, arith}
+use Rattle.std.proofs.Common.{◌≡◌, ℕ, Bool, true, false, cond, leb, List, [], ◌∷◌, ◌++◌, length, Some, None, Ok, Err, Option, sym, ap, ◌∙◌, subst}
+use Rattle.std.specs.Option.{ok_or}
 use Rattle.refusal.specs.declared.Refusal.{Refusal}
 use Rattle.refusal.specs.declared.Refusal.TheVariants.{ProgramFull, FieldOutOfRange}
 use Rattle.program.specs.Programs.{Added}
 use Rattle.program.specs.Ranges.{in_range}
 use Rattle.program.specs.declared.lines.Line.{Line}
-use Rattle.recording.specs.Meaning.{Phase, added, adding, fault, line_at, line_tested, moving, reading, stepped}
-use Rattle.recording.specs.Steps.{AddedUpTo, AtFault, Peeked, Starts, adding_from, moving_from, past_of}
+use Rattle.recording.specs.Meaning.{added, adding, fault, line_at, line_tested, reading}
+use Rattle.recording.specs.Steps.{AtFault, Peeked, Starts, adding_from, past_of}
 use Rattle.recording.specs.declared.faults.Failure.{Failure}
 use Rattle.recording.specs.declared.faults.Failure.TheVariants.{At, Memory}
 use Rattle.recording.specs.declared.faults.Place.{Place}
 use Rattle.recording.specs.declared.records.Fields.{Fields}
-use Rattle.recording.specs.declared.records.Record.{Record}
-use Rattle.recording.specs.declared.records.Record.TheVariants.{Setup, Instruction, Run, Drain}
+use Rattle.recording.specs.declared.records.Record.TheVariants.{Instruction}
 use Rattle.recording.specs.declared.records.Setup.{Setup as Setup'}
-use Rattle.recording.proofs.Following.{cut, over, steps_on, stops}
+use Rattle.recording.proofs.Following.{cut, steps_on, stops}
+
+-- What an option gives was in it.
+pub was_some : {A E : Type 0} (o : Option A) (x : A) (e : E) → Ok x ≡ ok_or o e → o ≡ Some x
+was_some (Some y) x e is = cc
+was_some None x e is = absurd cc
 
 -- A line that the program takes is the one that the record adds,
 pub taken : (ls after : List Line) (l : Line) (n : ℕ) → Added ls l (Ok n) after → line_tested ls (Some l) ≡ Ok after
 taken ls after l n so = go (leb 128 (length ls)) (in_range l) so.value
   where
     go : (full ranged : Bool) → Ok n ≡ cond full (Err ProgramFull) (cond ranged (Ok (length ls)) (Err FieldOutOfRange)) → cond full (Err ProgramFull) (cond ranged (Ok (ls ++ l ∷ [])) (Err FieldOutOfRange)) ≡ Ok after
-    go true ranged is = absurd (let z : ◌≡◌ {A = ℕ} 0 1 = cc in omega (arith, z))
+    go true ranged is = absurd cc
     go false true is = ap Ok (sym so.lines)
-    go false false is = absurd (let z : ◌≡◌ {A = ℕ} 0 1 = cc in omega (arith, z))
+    go false false is = absurd cc
 
 -- and one that it refuses is refused for the record.
 pub not_taken : (ls after : List Line) (l : Line) (r : Refusal) → Added ls l (Err r) after → line_tested ls (Some l) ≡ Err r
 not_taken ls after l r so = go (leb 128 (length ls)) (in_range l) so.value
   where
     go : (full ranged : Bool) → Err r ≡ cond full (Err ProgramFull) (cond ranged (Ok (length ls)) (Err FieldOutOfRange)) → cond full (Err ProgramFull) (cond ranged (Ok (ls ++ l ∷ [])) (Err FieldOutOfRange)) ≡ Err r
-    go true ranged is = (let same : ProgramFull ≡ r = cc in ap Err same)
-    go false true is = absurd (let z : ◌≡◌ {A = ℕ} 0 1 = cc in omega (arith, z))
-    go false false is = (let same : FieldOutOfRange ≡ r = cc in ap Err same)
+    go true ranged is = cc
+    go false true is = absurd cc
+    go false false is = cc
 
 -- the records from start to place were instructions, and with their lines added the meaning goes on at place
 pub record AddingOn (bs : List ℕ) (start : Place) (before : List Line) (place : Place) (ls : List Line) : Type 0 where
   pub reads : (s : Setup') → adding_from bs start before s ≡ adding_from bs place ls s
-  pub index : place.index ≤ place.byte
-  pub within : place.byte ≤ length bs
-
--- At the start nothing is added.
-pub adding_none : (bs : List ℕ) (start : Place) (before : List Line) → start.index ≤ start.byte → start.byte ≤ length bs → AddingOn bs start before start before
-adding_none bs start before index within = record { reads = λ s. refl; index = index; within = within }
 
 module _ (bs : List ℕ) (start : Place) (before : List Line) (place : Place) (ls : List Line) (so : AddingOn bs start before place ls) where
   -- One instruction more,
   pub adding_more : (f : Fields) (after : List Line) → Peeked bs place (Ok (Some (Instruction f))) → line_tested ls (line_at f) ≡ Ok after → AddingOn bs start before (past_of place (Instruction f)) after
   adding_more f after here is = record {
     reads = λ s. so.reads s ∙ steps_on (adding s ls) place.index place.byte bs (Instruction f) (adding s after) here.0 (ap (added s) is);
-    index = omega (arith, so.index);
-    within = here.1;
   }
 
   -- or its line is refused;
@@ -64,33 +61,6 @@ module _ (bs : List ℕ) (start : Place) (before : List Line) (place : Place) (l
       (so.reads s ∙ cut (adding s ls) place.index place.byte bs here.0 here.2)
   adding_cut Memory here s = absurd here
 
-  -- at the end of the recording there are no moves;
-  pub adding_over : Peeked bs place (Ok None) → AddedUpTo bs start before place ls
-  adding_over here = record {
-    goes_on = λ s. so.reads s ∙ over (adding s ls) place.index place.byte bs here ∙ sym (over (moving s ls []) place.index place.byte bs here);
-    index = so.index;
-    within = so.within;
-  }
-
-  -- and any other record steps as it does where the moves begin,
-  same_step : (s : Setup') (r : Record) → ((f : Fields) → r ≡ Instruction f → ⊥) → stepped (adding s ls) r ≡ stepped (moving s ls []) r
-  same_step s (Setup again) other = refl
-  same_step s (Instruction f) other = absurd (other f refl)
-  same_step s (Run t n) other = refl
-  same_step s (Drain t c) other = refl
-
-  -- so that the meaning goes on there.
-  pub adding_ends : (r : Record) → ((f : Fields) → r ≡ Instruction f → ⊥) → Peeked bs place (Ok (Some r)) → AddedUpTo bs start before place ls
-  adding_ends r other here = record { goes_on = λ s. so.reads s ∙ go s (stepped (moving s ls []) r) refl; index = so.index; within = so.within }
-    where
-      go : (s : Setup') (o : Result Phase Refusal) → stepped (moving s ls []) r ≡ o → adding_from bs place ls s ≡ moving_from bs place ls [] s
-      go s (Ok next) is =
-          steps_on (adding s ls) place.index place.byte bs r next here.0 (same_step s r other ∙ is)
-          ∙ sym (steps_on (moving s ls []) place.index place.byte bs r next here.0 is)
-      go s (Err e) is =
-          stops (adding s ls) place.index place.byte bs r e here.0 (same_step s r other ∙ is)
-          ∙ sym (stops (moving s ls []) place.index place.byte bs r e here.0 is)
-
 -- A recording that begins with a setup means what its instructions mean from behind it on, in a program with no line.
-pub reads_on : (bs : List ℕ) (s : Setup') (ls : List Line) → Starts bs s → ls ≡ [] → reading bs ≡ adding_from bs (record { index = 1; byte = 8 }) ls s
-reads_on bs s ls starts none = starts.goes_on ∙ ap (λ lines. adding_from bs (record { index = 1; byte = 8 }) lines s) (sym none)
+pub reads_on : (bs : List ℕ) (p : Place) (s : Setup') (ls : List Line) → Starts bs p s → ls ≡ [] → reading bs ≡ adding_from bs p ls s
+reads_on bs p s ls starts none = starts ∙ ap (λ lines. adding_from bs p lines s) (sym none)

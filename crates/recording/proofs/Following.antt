@@ -3,7 +3,7 @@ use Rattle.std.proofs.Common.{◌≡◌, ℕ, zero, suc, ◌+◌, ◌≤◌, Boo
 use Rattle.std.proofs.lemmas.Bool.{leb-true}
 use Rattle.refusal.specs.declared.Refusal.{Refusal}
 use Rattle.refusal.specs.declared.Refusal.TheVariants.{RecordCutShort, RecordUnknown}
-use Rattle.recording.specs.Layout.{Shape, body_at, body_size, byte, drain, fields_at, first_record, instruction, kind_at, run, setup, setup_with, shape_of, shaped, size, word}
+use Rattle.recording.specs.Layout.{Shape, body_at, body_size, byte, drain, first_record, instruction, kind_at, run, setup, setup_with, shape_of, shaped, size, word}
 use Rattle.recording.specs.Meaning.{Phase, ended, fault, read_from, records, records_in, stepped}
 use Rattle.recording.specs.declared.records.Kind.{Kind}
 use Rattle.recording.specs.declared.records.Record.{Record}
@@ -18,20 +18,20 @@ at_least (Drain t c) = omega arith
 
 -- A setup of a known kind has eight bytes,
 setup_with_size : (k : Option Kind) (n : ℕ) (r : Record) → setup_with k n ≡ Ok r → size r ≡ 8
-setup_with_size None n r is = absurd (let z : ◌≡◌ {A = ℕ} 0 1 = cc in omega (arith, z))
-setup_with_size (Some k) n r is = let same : r ≡ Setup (record { kind = k; strong = n }) = cc in ap size same
+setup_with_size None n r is = absurd cc
+setup_with_size (Some k) n r is = cc
 
 -- so that every setup that is read has eight bytes,
 setup_size : (b : Bool) (k : Option Kind) (n : ℕ) (r : Record) → cond b (setup_with k n) (Err RecordUnknown) ≡ Ok r → size r ≡ 8
 setup_size true k n r is = setup_with_size k n r is
-setup_size false k n r is = absurd (let z : ◌≡◌ {A = ℕ} 0 1 = cc in omega (arith, z))
+setup_size false k n r is = absurd cc
 
 -- and a record of any shape the four bytes in front and those of its shape.
 body_sized : (s : Shape) (bs : List ℕ) (r : Record) → body_at s bs ≡ Ok r → size r ≡ 4 + body_size s
 body_sized setup bs r is = setup_size (eqb (byte bs 1) 0) (kind_at (byte bs 0)) (word (byte bs 2) (byte bs 3)) r is
-body_sized instruction bs r is = let same : r ≡ Instruction (fields_at bs) = cc in ap size same
-body_sized run bs r is = let same : r ≡ Run (byte bs 0) (byte bs 1) = cc in ap size same
-body_sized drain bs r is = let same : r ≡ Drain (byte bs 0) (byte bs 1) = cc in ap size same
+body_sized instruction bs r is = cc
+body_sized run bs r is = cc
+body_sized drain bs r is = cc
 
 -- The record that some bytes begin with lies within them.
 pub first_within : (bs : List ℕ) (r : Record) → first_record bs ≡ Ok r → size r ≤ length bs
@@ -40,12 +40,12 @@ first_within bs r = go (leb 4 (length bs)) refl (shape_of (word (byte bs 0) (byt
     fits : (s : Shape) (b : Bool) → leb (body_size s) (length (drop 4 bs)) ≡ b → cond b (body_at s (drop 4 bs)) (Err RecordCutShort) ≡ Ok r → leb 4 (length bs) ≡ true → size r ≤ length bs
     fits s true long is front =
         omega (arith, leb-true (body_size s) (length (drop 4 bs)) long, leb-true 4 (length bs) front, length-drop 4 bs, body_sized s (drop 4 bs) r is)
-    fits s false long is front = absurd (let z : ◌≡◌ {A = ℕ} 0 1 = cc in omega (arith, z))
+    fits s false long is front = absurd cc
 
     go : (b : Bool) → leb 4 (length bs) ≡ b → (o : Option Shape) → cond b (shaped o (drop 4 bs)) (Err RecordCutShort) ≡ Ok r → size r ≤ length bs
-    go true front None is = absurd (let z : ◌≡◌ {A = ℕ} 0 1 = cc in omega (arith, z))
+    go true front None is = absurd cc
     go true front (Some s) is = fits s (leb (body_size s) (length (drop 4 bs))) refl is front
-    go false front o is = absurd (let z : ◌≡◌ {A = ℕ} 0 1 = cc in omega (arith, z))
+    go false front o is = absurd cc
 
 -- the records from some bytes on, by what these begin with
 abbrev from_first : ℕ → List ℕ → Result Record Refusal → List (Result Record Refusal)
@@ -79,7 +79,7 @@ enough (suc n) (suc m) (b ∷ bs) few many = go (λ rest. enough n m rest) (firs
 
 -- The first record comes first, and behind it those of the bytes behind it.
 pub records_ok : (bs : List ℕ) (r : Record) → first_record bs ≡ Ok r → records bs ≡ Ok r ∷ records (drop (size r) bs)
-records_ok [] r is = absurd (let z : ◌≡◌ {A = ℕ} 0 1 = cc in omega (arith, z))
+records_ok [] r is = absurd cc
 records_ok (b ∷ bs) r is =
     let shorter = length-drop (size r) (b ∷ bs) in
     let big = at_least r in

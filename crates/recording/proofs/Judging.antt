@@ -1,5 +1,5 @@
 -- What judging a replay in step with the ledger answers, as a reading's verdict or fault.
-use Rattle.std.proofs.Common.{◌≡◌, ℕ, ◌<◌, ◌≤◌, Bool, true, false, not, ltb, List, length, take, Some, None, Ok, Err, MatchBool, Result, sym, refl, ap, ◌∙◌, subst, arith}
+use Rattle.std.proofs.Common.{◌≡◌, ℕ, ◌<◌, ◌≤◌, Bool, true, false, not, ltb, List, length, take, Some, None, Ok, Err, MatchBool, Result, sym, refl, ap, ◌∙◌, subst}
 use Rattle.std.proofs.lemmas.Bool.{le-ltb, lt-ltb}
 use Rattle.refusal.specs.declared.Refusal.{Refusal}
 use Rattle.refusal.specs.declared.Refusal.TheVariants.{StoreWaits, TooShort}
@@ -26,12 +26,12 @@ module _ (rules : Rules) (lawful : Lawful rules) (ls : List Line) (ms : List Mov
   -- With as many places as there are actions, a judgement where nothing waits is not refused,
   not_refused : (b : Bool) (places : ℕ) → b ≡ true → how_many_in h.own ≤ places → guard (not b) StoreWaits (guard (ltb places (how_many (ledger_of ls ms))) TooShort None) ≡ None
   not_refused true places nothing room = ap (λ b. guard b TooShort None) (le-ltb places (how_many (ledger_of ls ms)) (subst (λ n. n ≤ places) (theorems.counts rules ls ms h in_step) room))
-  not_refused false places nothing room = absurd (let z : ◌≡◌ {A = ℕ} 0 1 = cc in omega (arith, z))
+  not_refused false places nothing room = absurd cc
 
   -- with fewer it is,
   too_short : (b : Bool) (places : ℕ) → b ≡ true → places < how_many_in h.own → guard (not b) StoreWaits (guard (ltb places (how_many (ledger_of ls ms))) TooShort None) ≡ Some TooShort
   too_short true places nothing room = ap (λ b. guard b TooShort None) (lt-ltb places (how_many (ledger_of ls ms)) (subst (λ n. places < n) (theorems.counts rules ls ms h in_step) room))
-  too_short false places nothing room = absurd (let z : ◌≡◌ {A = ℕ} 0 1 = cc in omega (arith, z))
+  too_short false places nothing room = absurd cc
 
   -- What a judgement lists is told of the actions.
   told_of : (before after : List Name) (v : Verdict) → ListedIn h.own before v after → Told h.own v (take v.entries after)
@@ -50,7 +50,7 @@ module _ (rules : Rules) (lawful : Lawful rules) (ls : List Line) (ms : List Mov
         within = here.1.within;
         later = here.1.later;
       }
-      go false some here = absurd (let z : ◌≡◌ {A = ℕ} 0 1 = cc here.0 in omega (arith, z))
+      go false some here = absurd (cc here.0)
 
   -- and a refusal is the one that the ledger says, and leaves the list as it was.
   pub refusal_read : (before after : List Name) (r : Refusal) → JudgedHeld h before (Err r) after → (judge_tested (ledger_of ls ms) (length before) ≡ Some r) × (after ≡ before)

@@ -1,29 +1,21 @@
 -- Reading the layout of records, and that it is read back.
-use Rattle.std.proofs.Common.{◌≡◌, ℕ, zero, suc, ◌+◌, ◌-◌, ◌*◌, ◌/◌, ◌%◌, ◌^◌, ◌<◌, ◌≤◌, Bool, true, false, cond, ◌&&◌, eqb, leb, List, [], ◌∷◌, ◌++◌, map, length, take, drop, Some, None, Ok, Err, Option, Result, sym, refl, ap, ◌∙◌, subst, mod-eq_of_lt, arith}
+use Rattle.std.proofs.Common.{◌≡◌, ℕ, zero, suc, ◌+◌, ◌*◌, ◌/◌, ◌%◌, ◌^◌, ◌<◌, ◌≤◌, Bool, true, false, cond, ◌&&◌, eqb, leb, List, [], ◌∷◌, ◌++◌, map, length, take, drop, Some, None, Ok, Err, Option, Result, sym, refl, ap, ◌∙◌, subst, mod-eq_of_lt, arith}
 use native.Mathlib.Nat.{div-div-eq-div-mul}
 use Rattle.std.specs.List.{range_with_len, AllByRecursion}
 use Rattle.std.proofs.lemmas.Nat.{div-add-mod', div_below, div-mul-add, mod-mul-add}
 use Rattle.std.proofs.lemmas.List.FromFn.{fill_by_all}
 use Rattle.std.proofs.ByRecursion.{All-get_or}
-use Rattle.std.proofs.lemmas.List.{drop-drop, get_or-drop, get_or-take, length-take-le, take-append-drop, take_rest}
+use Rattle.std.proofs.lemmas.List.{drop-drop, get_or-take, length-take-le, take-append-drop}
 use Rattle.std.proofs.lemmas.Bool.{and_parts, cond-true, eqb-true, le-leb, leb-true}
 use Rattle.refusal.specs.declared.Refusal.{Refusal}
 use Rattle.refusal.specs.declared.Refusal.TheVariants.{RecordCutShort, RecordUnknown}
-use Rattle.recording.specs.Layout.{Shape, body_at, body_bytes, body_size, byte, bytes_of, drain, fields_at, first_record, four_bytes, instruction, kind_at, kind_byte, kind_number, long, run, setup, setup_with, shape_of, shaped, size, two_bytes, word}
+use Rattle.recording.specs.Layout.{Shape, body_at, body_bytes, body_size, byte, bytes_of, drain, fields_at, four_bytes, instruction, kind_at, kind_byte, kind_number, long, run, setup, setup_with, shape_of, shaped, size, two_bytes, word}
 use Rattle.recording.specs.Readback.{ReadIsLayout, Readback, ReadsBack}
 use Rattle.recording.specs.declared.records.Fields.{Fields}
 use Rattle.recording.specs.declared.records.Kind.{Kind}
 use Rattle.recording.specs.declared.records.Kind.TheVariants.{Direct, Queue, PerCell}
 use Rattle.recording.specs.declared.records.Record.{Record}
 use Rattle.recording.specs.declared.records.Record.TheVariants.{Setup, Instruction, Run, Drain}
-
--- A record of an announced shape, read from what is behind the first four bytes, is the first record.
-pub first_of : (bs : List ℕ) (l k : ℕ) (s : Shape) (r : Result Record Refusal) → 4 ≤ length bs → l ≡ word (byte bs 0) (byte bs 1) → k ≡ word (byte bs 2) (byte bs 3) → shape_of l k ≡ Some s → r ≡ shaped (Some s) (take (length bs - 4) (drop 4 bs)) → r ≡ first_record bs
-first_of bs l k s r there el ek es er =
-    er
-    ∙ ap (shaped (Some s)) (take_rest bs 4)
-    ∙ ap (λ (o : Option Shape). shaped o (drop 4 bs)) (sym es ∙ λ i. shape_of (el i) (ek i))
-    ∙ sym (cond-true (leb 4 (length bs)) _ (Err RecordCutShort) (le-leb 4 (length bs) there))
 
 -- The fields of an instruction, with these numbers for its operands.
 abbrev with_operands : List ℕ → ℕ → ℕ → Fields
@@ -39,20 +31,6 @@ with_operands bs a' b' = record {
   a = a';
   b = b';
 }
-
--- A byte behind the first eight.
-past_eight : (bs : List ℕ) (k : ℕ) → byte (take (length bs - 8) (drop 8 bs)) k ≡ byte bs (8 + k)
-past_eight bs k = ap (λ xs. byte xs k) (take_rest bs 8) ∙ get_or-drop 8 bs k 0
-
--- The operands behind the first eight bytes are those of the fields.
-pub fields_read : (bs : List ℕ) (a b : ℕ) → 16 ≤ length bs
-    → a ≡ long (byte (take (length bs - 8) (drop 8 bs)) 0) (byte (take (length bs - 8) (drop 8 bs)) 1) (byte (take (length bs - 8) (drop 8 bs)) 2) (byte (take (length bs - 8) (drop 8 bs)) 3)
-    → b ≡ long (byte (take (length bs - 8) (drop 8 bs)) 4) (byte (take (length bs - 8) (drop 8 bs)) 5) (byte (take (length bs - 8) (drop 8 bs)) 6) (byte (take (length bs - 8) (drop 8 bs)) 7)
-    → Ok (Instruction (with_operands bs a b)) ≡ shaped (Some instruction) bs
-fields_read bs a b there ea eb =
-    let a_is : a ≡ long (byte bs 8) (byte bs 9) (byte bs 10) (byte bs 11) = ea ∙ λ i. long (past_eight bs 0 i) (past_eight bs 1 i) (past_eight bs 2 i) (past_eight bs 3 i) in
-    let b_is : b ≡ long (byte bs 12) (byte bs 13) (byte bs 14) (byte bs 15) = eb ∙ λ i. long (past_eight bs 4 i) (past_eight bs 5 i) (past_eight bs 6 i) (past_eight bs 7 i) in
-    (λ i. Ok (Instruction (with_operands bs (a_is i) (b_is i)))) ∙ sym (cond-true (leb 16 (length bs)) (Ok (Instruction (fields_at bs))) (Err RecordCutShort) (le-leb 16 (length bs) there))
 
 -- The two bytes of a number give it.
 word_of_two : (n : ℕ) → n < 65536 → word (n % 256) (n / 256 % 256) ≡ n
@@ -135,7 +113,7 @@ spread n bs h = sym (take-append-drop n bs) ∙ ap (λ xs. xs ++ drop n bs) (fil
 
 -- Nothing is refused and read.
 refused_read : {A : Type 0} (e : Refusal) (r : Record) → ◌≡◌ {A = Result Record Refusal} (Err e) (Ok r) → A
-refused_read e r p = let z : ◌≡◌ {A = ℕ} 0 1 = cc in absurd (omega (arith, z))
+refused_read e r p = absurd cc
 
 -- What a test lets through was long enough, and is what stands behind the test.
 let_through : (n : ℕ) (bs : List ℕ) (x : Result Record Refusal) (r : Record) → cond (leb n (length bs)) x (Err RecordCutShort) ≡ Ok r → (n ≤ length bs) × (x ≡ Ok r)
@@ -162,7 +140,7 @@ announced l k s p = by (eqb l 8 && eqb k 1) (eqb l 20 && eqb k 2) (eqb l 6 && eq
   by false true t₃ t₄ e₁ e₂ e₃ e₄ q = subst Its (same instruction q) (both 20 2 e₂)
   by false false true t₄ e₁ e₂ e₃ e₄ q = subst Its (same run q) (both 6 3 e₃)
   by false false false true e₁ e₂ e₃ e₄ q = subst Its (same drain q) (both 6 4 e₄)
-  by false false false false e₁ e₂ e₃ e₄ q = let z : ◌≡◌ {A = ℕ} 0 1 = cc in absurd (omega (arith, z))
+  by false false false false e₁ e₂ e₃ e₄ q = absurd cc
 
 -- What a record read from bytes of a shape is: one of that shape, whose fields are those bytes.
 record Body (s : Shape) (bs : List ℕ) (r : Record) : Type 0 where
@@ -172,10 +150,10 @@ record Body (s : Shape) (bs : List ℕ) (r : Record) : Type 0 where
 
 -- The byte of a kind that is read.
 kind_from : (n : ℕ) (k : Kind) → kind_at n ≡ Some k → n ≡ kind_byte k
-kind_from zero k p = let e : Direct ≡ k = cc in ap kind_byte e
-kind_from (suc zero) k p = let e : Queue ≡ k = cc in ap kind_byte e
-kind_from (suc (suc zero)) k p = let e : PerCell ≡ k = cc in ap kind_byte e
-kind_from (suc (suc (suc n))) k p = let z : ◌≡◌ {A = ℕ} 0 1 = cc in absurd (omega (arith, z))
+kind_from zero k p = cc
+kind_from (suc zero) k p = cc
+kind_from (suc (suc zero)) k p = cc
+kind_from (suc (suc (suc n))) k p = absurd cc
 
 -- A setup that is read.
 setup_from : (bs : List ℕ) (r : Record) → AllByRecursion (λ b. b < 256) bs → 4 ≤ length bs → body_at setup bs ≡ Ok r → Body setup bs r

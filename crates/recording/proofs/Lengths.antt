@@ -1,5 +1,5 @@
 -- How long a printed verdict and a printed fault can be.
-use Rattle.std.proofs.Common.{◌≡◌, ℕ, ◌+◌, ◌-◌, ◌*◌, ◌^◌, ◌<◌, ◌≤◌, Bool, true, false, cond, ◌&&◌, List, [], ◌∷◌, ◌++◌, map, length, take, Some, Ok, Err, codes, decimal, sym, refl, ap, ◌∙◌, subst, inl, inr, ⊎_elim, arith}
+use Rattle.std.proofs.Common.{◌≡◌, ℕ, ◌+◌, ◌*◌, ◌^◌, ◌<◌, ◌≤◌, Bool, true, false, cond, ◌&&◌, List, [], ◌∷◌, ◌++◌, map, length, take, Some, Ok, Err, codes, decimal, sym, refl, ap, subst, inl, inr, ⊎_elim, arith}
 use Rattle.std.specs.List.{AllByRecursion}
 use Rattle.std.proofs.lemmas.Fmt.{length-decimal-le}
 use Rattle.std.proofs.lemmas.List.{length-append, length-map}
@@ -32,9 +32,8 @@ use Rattle.replay.specs.declared.verdicts.Verdict.{Verdict}
 use Rattle.replay.specs.declared.verdicts.Word.{Word}
 use Rattle.replay.specs.declared.verdicts.Word.TheVariants.{Sequential, Violation}
 use Rattle.recording.specs.Meaning.{Reading, fault, reading, rules_of, whole}
-use Rattle.recording.specs.Texts.{Says, fault_text, first_line, name_lines, verdict_text}
+use Rattle.recording.specs.Texts.{TextOf, fault_text, first_line, name_lines, verdict_text}
 use Rattle.recording.specs.Verdicts.{ReadAs, TrulyRead, faulty}
-use Rattle.recording.specs.declared.faults.Failure.{Failure}
 use Rattle.recording.specs.declared.faults.Failure.TheVariants.{At}
 use Rattle.recording.specs.declared.faults.Fault.{Fault}
 use Rattle.recording.proofs.Accepting.{accepted_moves, rules_lawful}
@@ -190,20 +189,19 @@ short_fault f index byte =
     simp length-append (omega (arith, simp length-append at refusal, first, second))
 
 -- What the verdict's text says, and that it fits a page.
-pub verdict_said : (bs : List ℕ) (before after : List Name) (v : Verdict) (text : List ℕ) → length before ≡ 256 → length after ≡ 256 → ReadAs (reading bs) (length bs) before (Ok v) after → text ≡ verdict_text v (take (v.entries - 0) after) → Says bs text × (length text ≤ 2048)
+pub verdict_said : (bs : List ℕ) (before after : List Name) (v : Verdict) (text : List ℕ) → length before ≡ 256 → length after ≡ 256 → ReadAs (reading bs) (length bs) before (Ok v) after → text ≡ verdict_text v (take v.entries after) → TextOf bs text
 verdict_said bs before after v text places same written is =
-    let names = take (v.entries - 0) after in
-    let front : v.entries ≡ v.entries - 0 = omega arith in
-    let true_of : TrulyRead (reading bs) 256 v (map name_of names) = subst (λ n. TrulyRead (reading bs) n v (map name_of names)) places (subst (λ n. TrulyRead (reading bs) (length before) v (map name_of (take n after))) front written.true_of) in
+    let names = take v.entries after in
+    let true_of : TrulyRead (reading bs) 256 v (map name_of names) = subst (λ n. TrulyRead (reading bs) n v (map name_of names)) places written.true_of in
     let few : v.entries ≤ 256 = omega (arith, written.within, same) in
-    let short = short_verdict bs 256 v names true_of few in
-    (inl (record { verdict = v; names = names; true_of = true_of; is = is }), subst (λ (l : List ℕ). length l ≤ 2048) (sym is) short)
+    record {
+      says = inl (record { verdict = v; names = names; true_of = true_of; is = is });
+      bound = subst (λ (l : List ℕ). length l ≤ 2048) (sym is) (short_verdict bs 256 v names true_of few);
+    }
 
 -- What the fault's text says, and that it fits a page.
-pub fault_said : (bs : List ℕ) (before after : List Name) (e : Failure) (f g : Fault) (text : List ℕ) → length before ≡ 256 → f.place.index < 2 ^ 64 → f.place.byte < 2 ^ 64 → ReadAs (reading bs) (length bs) before (Err e) after → e ≡ At f → g ≡ f → text ≡ fault_text g → Says bs text × (length text ≤ 2048)
-fault_said bs before after e f g text full index byte read at same is =
-    let found : faulty (reading bs) (length bs) (length before) ≡ Some f = (subst (λ o. ReadAs (reading bs) (length bs) before (Err o) after) at read).0 in
-    let printed : text ≡ fault_text f = is ∙ ap fault_text same in (
-      inr (record { at = f; found = subst (λ n. faulty (reading bs) (length bs) n ≡ Some f) full found; is = printed }),
-      subst (λ (l : List ℕ). length l ≤ 2048) (sym printed) (short_fault f index byte),
-    )
+pub fault_said : (bs : List ℕ) (before after : List Name) (f : Fault) (text : List ℕ) → length before ≡ 256 → f.place.index < 2 ^ 64 → f.place.byte < 2 ^ 64 → ReadAs (reading bs) (length bs) before (Err (At f)) after → text ≡ fault_text f → TextOf bs text
+fault_said bs before after f text full index byte read is = record {
+  says = inr (record { at = f; found = subst (λ n. faulty (reading bs) (length bs) n ≡ Some f) full read.0; is = is });
+  bound = subst (λ (l : List ℕ). length l ≤ 2048) (sym is) (short_fault f index byte);
+}

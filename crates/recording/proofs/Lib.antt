@@ -4,5 +4,5 @@ pub mod Following
 pub mod Judging
 pub mod Layouts
 pub mod Lengths
-pub mod Lines
 pub mod Moving
+pub mod Placing

@@ -17,8 +17,8 @@ use Rattle.replay.specs.Offers.{Offered}
 use Rattle.replay.specs.Verdicts.{JudgedHeld}
 use Rattle.replay.specs.declared.names.Name.{Name}
 use Rattle.replay.specs.declared.verdicts.Verdict.{Verdict}
-use Rattle.recording.specs.Meaning.{Phase, Reading, fault, moved_by, moving, rules_of, stepped, whole}
-use Rattle.recording.specs.Steps.{AtFault, Peeked, move_of, moving_from, past_of}
+use Rattle.recording.specs.Meaning.{Phase, Reading, fault, move_of, moved_by, moving, rules_of, stepped, whole}
+use Rattle.recording.specs.Steps.{AtFault, Peeked, moving_from, past_of, placed_at}
 use Rattle.recording.specs.Verdicts.{ReadAs, WrittenAs, fault_at, faulty}
 use Rattle.recording.specs.declared.faults.Failure.{Failure}
 use Rattle.recording.specs.declared.faults.Failure.TheVariants.{At, Memory}
@@ -27,7 +27,7 @@ use Rattle.recording.specs.declared.records.Record.{Record}
 use Rattle.recording.specs.declared.records.Record.TheVariants.{Setup, Instruction, Run, Drain}
 use Rattle.recording.specs.declared.records.Setup.{Setup as Setup'}
 use Rattle.recording.proofs.Judging.{refusal_read, verdict_read}
-use Rattle.recording.proofs.Following.{at_least, cut, over, passed_all, steps_on, stops}
+use Rattle.recording.proofs.Following.{cut, over, passed_all, steps_on, stops}
 
 -- the step by an offered move, and by none
 abbrev step_with : Setup' → List Line → List Move → Option Move → Result Phase Refusal
@@ -48,12 +48,12 @@ no_step s ls ms r is = step_by s ls ms r ∙ ap (step_with s ls ms) is
 -- A move that is answered with a value passed its test,
 tested_ok : (o : Option Refusal) (v w : ℕ) → Ok v ≡ answered o w → o ≡ None
 tested_ok None v w is = refl
-tested_ok (Some r) v w is = absurd (let z : ◌≡◌ {A = ℕ} 0 1 = cc in omega (arith, z))
+tested_ok (Some r) v w is = absurd cc
 
 -- and one that is refused did not.
 tested_err : (o : Option Refusal) (r : Refusal) (w : ℕ) → Err r ≡ answered o w → o ≡ Some r
-tested_err None r w is = absurd (let z : ◌≡◌ {A = ℕ} 0 1 = cc in omega (arith, z))
-tested_err (Some e) r w is = (let same : e ≡ r = cc in ap Some same)
+tested_err None r w is = absurd cc
+tested_err (Some e) r w is = cc
 
 -- A reading at a fault is told as that fault.
 pub fault_read : (read : Reading) (bytes : ℕ) (list : List Name) (e : Failure) → AtFault read e → ReadAs read bytes list (Err e) list
@@ -65,17 +65,13 @@ fault_read read bytes list Memory is = refl
 pub record Going (rules : Rules) (ls : List Line) (bs : List ℕ) (start place : Place) (h : Held) : Type 0 where
   pub moves : List Move
   pub in_step : InStep rules ls moves h
-  pub index : place.index ≤ place.byte
-  pub within : place.byte ≤ length bs
   pub reads : (s : Setup') → rules ≡ rules_of s → moving_from bs start ls [] s ≡ moving_from bs place ls moves s
 
 -- A fresh replay was offered none.
-pub going_none : (rules : Rules) (ls : List Line) (bs : List ℕ) (start : Place) → start.index ≤ start.byte → start.byte ≤ length bs → Going rules ls bs start start fresh_held
-going_none rules ls bs start index within = record {
+pub going_none : (rules : Rules) (ls : List Line) (bs : List ℕ) (start : Place) → Going rules ls bs start start fresh_held
+going_none rules ls bs start = record {
   moves = [];
   in_step = theorems.begins rules ls;
-  index = index;
-  within = within;
   reads = λ s is. refl;
 }
 
@@ -96,8 +92,6 @@ module _ (rules : Rules) (lawful : Lawful rules) (ls : List Line) (bs : List ℕ
         in_step =
             subst (InStep rules ls (ms ++ m ∷ [])) (sym so.held)
             (subst (λ o. InStep rules ls (joined_by_offer o ms m) (after_offer_held rules ls h m)) passed (theorems.goes_on rules lawful ls ms h going.in_step m));
-        index = omega (arith, going.index, at_least r);
-        within = here.1;
         reads = λ s rule.
             going.reads s rule
             ∙ steps_on (moving s ls ms) place.index place.byte bs r (moving s ls (ms ++ m ∷ [])) here.0
@@ -112,10 +106,6 @@ module _ (rules : Rules) (lawful : Lawful rules) (ls : List Line) (bs : List ℕ
       ∙ stops (moving s ls ms) place.index place.byte bs r e here.0
       (step_by s ls ms r ∙ ap (step_with s ls ms) is ∙ ap (moved_by s ls ms m) (subst (λ (k : Rules). tested k ls (ledger_of ls ms) m ≡ Some e) rule failed))
 
-  -- a record may offer none;
-  pub going_astray : (r : Record) → Peeked bs place (Ok (Some r)) → move_of r ≡ None → (s : Setup') → rules ≡ rules_of s → moving_from bs start ls [] s ≡ fault RecordOutOfPlace place.index place.byte
-  going_astray r here is s rule = going.reads s rule ∙ stops (moving s ls ms) place.index place.byte bs r RecordOutOfPlace here.0 (no_step s ls ms r is)
-
   -- or be at fault.
   pub going_cut : (e : Failure) → Peeked bs place (Err e) → (s : Setup') → rules ≡ rules_of s → AtFault (moving_from bs start ls [] s) e
   going_cut (At f) here s rule =
@@ -128,16 +118,21 @@ module _ (rules : Rules) (lawful : Lawful rules) (ls : List Line) (bs : List ℕ
   going_over here s rule = going.reads s rule ∙ over (moving s ls ms) place.index place.byte bs here
 
   -- and the judgement of the replay is that of the recording, a verdict
-  pub going_judged : Peeked bs place (Ok None) → (before after : List Name) (v : Verdict) → JudgedHeld h before (Ok v) after → (s : Setup') → rules ≡ rules_of s → WrittenAs (moving_from bs start ls [] s) before v after
+  going_judged : Peeked bs place (Ok None) → (before after : List Name) (v : Verdict) → JudgedHeld h before (Ok v) after → (s : Setup') → rules ≡ rules_of s → WrittenAs (moving_from bs start ls [] s) before v after
   going_judged here before after v so s rule = subst (λ read. WrittenAs read before v after) (sym (going_over here s rule)) (verdict_read rules lawful ls ms h going.in_step s place.index before after v so)
 
   -- or a refusal.
-  pub going_unjudged : Peeked bs place (Ok None) → (before after : List Name) (e : Refusal) → JudgedHeld h before (Err e) after → (s : Setup') → rules ≡ rules_of s → (faulty (moving_from bs start ls [] s) (length bs) (length before) ≡ Some (fault_at e place.index place.byte)) × (after ≡ before)
-  going_unjudged here before after e so s rule =
+  going_unjudged : place.byte ≤ length bs → Peeked bs place (Ok None) → (before after : List Name) (e : Refusal) → JudgedHeld h before (Err e) after → (s : Setup') → rules ≡ rules_of s → (faulty (moving_from bs start ls [] s) (length bs) (length before) ≡ Some (fault_at e place.index place.byte)) × (after ≡ before)
+  going_unjudged within here before after e so s rule =
       let told = refusal_read rules lawful ls ms h going.in_step before after e so in
-      let end : length bs ≡ place.byte = omega (arith, passed_all place.byte bs here, going.within) in (
+      let end : length bs ≡ place.byte = omega (arith, passed_all place.byte bs here, within) in (
         ap (λ read. faulty read (length bs) (length before)) (going_over here s rule)
             ∙ ap (option_map (λ r. fault_at r place.index (length bs))) told.0
             ∙ ap (λ (n : ℕ). Some (fault_at e place.index n)) end,
         told.1,
       )
+
+  -- What is answered of it is what is read, with the place behind the last record for a refusal.
+  pub judged_told : place.byte ≤ length bs → Peeked bs place (Ok None) → (before after : List Name) (o : Result Verdict Refusal) → JudgedHeld h before o after → (s : Setup') → rules ≡ rules_of s → ReadAs (moving_from bs start ls [] s) (length bs) before (placed_at place o) after
+  judged_told within here before after (Ok v) so s rule = going_judged here before after v so s rule
+  judged_told within here before after (Err e) so s rule = going_unjudged within here before after e so s rule

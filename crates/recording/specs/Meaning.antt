@@ -2,6 +2,7 @@
 -- operand_at        an operand by its tag: one of eight registers, or a constant
 -- line_at           the line that an instruction's fields say, if its form, operation and tags are known and every field that the form
 --                   does not use is 0
+-- move_of           the move that a record offers, if it offers one
 -- records           the records of a recording, one after another; where one is at fault, its refusal ends them
 -- Phase             how far a recording has come: nothing yet; the setup and some lines; those and some moves
 -- stepped           the phase after one record more, or the refusal: its place, then what the program or the replay says to it
@@ -12,6 +13,7 @@
 use Rattle.std.specs.Prelude.{ℕ, zero, suc, ◌+◌, Bool, cond, ◌&&◌, List, [], ◌∷◌, ◌++◌, map, length, drop, Some, None, Ok, Err, Option, Result, ◌==◌, nat_le, nat_lt}
 use Rattle.refusal.specs.declared.Refusal.{Refusal}
 use Rattle.refusal.specs.declared.Refusal.TheVariants.{ProgramFull, FieldOutOfRange, RecordOutOfPlace}
+use Rattle.program.specs.Operations.{numbered}
 use Rattle.program.specs.Ranges.{in_range}
 use Rattle.program.specs.declared.forms.Instruction.{Instruction}
 use Rattle.program.specs.declared.forms.Instruction.TheVariants.{Load, Store, Fence, Compute, Assert}
@@ -19,7 +21,6 @@ use Rattle.program.specs.declared.forms.Operand.{Operand}
 use Rattle.program.specs.declared.forms.Operand.TheVariants.{Register, Constant}
 use Rattle.program.specs.declared.lines.Line.{Line}
 use Rattle.program.specs.declared.operations.Operation.{Operation}
-use Rattle.program.specs.declared.operations.Operation.TheVariants.{Sum, Difference, And, ExclusiveOr, Equal, Less}
 use Rattle.buffers.specs.Kinds.{direct, per_cell, queue, strong}
 use Rattle.buffers.specs.Laws.{Rules}
 use Rattle.ledger.specs.Moves.{ledger_of}
@@ -41,13 +42,7 @@ operand_at (suc zero) v = Some (Constant v)
 operand_at (suc (suc tag)) v = None
 
 abbrev pub operation_at : ℕ → Option Operation
-operation_at zero = Some Sum
-operation_at (suc zero) = Some Difference
-operation_at (suc (suc zero)) = Some And
-operation_at (suc (suc (suc zero))) = Some ExclusiveOr
-operation_at (suc (suc (suc (suc zero)))) = Some Equal
-operation_at (suc (suc (suc (suc (suc zero))))) = Some Less
-operation_at (suc (suc (suc (suc (suc (suc n)))))) = None
+operation_at n = numbered n
 
 -- the field is not used, and is 0
 abbrev pub unused : ℕ → Bool
@@ -120,6 +115,12 @@ kind_rules PerCell = per_cell
 
 abbrev pub rules_of : Setup' → Rules
 rules_of s = strong (chosen_by s.strong) (kind_rules s.kind)
+
+abbrev pub move_of : Record → Option Move
+move_of (Setup s) = None
+move_of (Added f) = None
+move_of (Run t n) = Some (Runs t n)
+move_of (Drain t c) = Some (Drains t c)
 
 pub data Phase : Type 0 where
   begun : Phase

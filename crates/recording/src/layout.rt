@@ -1,6 +1,8 @@
 // Which record some bytes begin with.
-ghost use Rattle.std.specs.Prelude.{◌≡◌, Some};
-ghost use Rattle.recording.specs.Layout.{drain as drain_shape, first_record, instruction as instruction_shape, long as long_value, run as run_shape, setup as setup_shape, shaped, size as record_size, word as word_value};
+ghost use Rattle.std.specs.Prelude.{◌≡◌, cond, length, nat_le, Some, Ok, Err};
+ghost use Rattle.std.specs.Option.{ok_or};
+ghost use Rattle.refusal.specs.declared.Refusal.TheVariants.{RecordCutShort, RecordUnknown};
+ghost use Rattle.recording.specs.Layout.{byte, first_record, instruction as instruction_shape, kind_at, setup as setup_shape, shaped, size as record_size};
 
 use super::records::{Fields, Kind, Record, Setup};
 use refusal::Refusal;
@@ -18,18 +20,20 @@ impl Record {
     }
 }
 
-// Two bytes as a number, the lowest first.
-fn word(low: u8, high: u8) -> u16
-    ensures { result ≡ word_value low high }
-{
-    u16::from(low) + 256 * u16::from(high)
-}
+// The kind of a number.
+impl TryFrom<u8> for Kind {
+    type Error = Refusal;
 
-// Four bytes as a number, the lowest first.
-fn long(b0: u8, b1: u8, b2: u8, b3: u8) -> u32
-    ensures { result ≡ long_value b0 b1 b2 b3 }
-{
-    u32::from(word(b0, b1)) + 65536 * u32::from(word(b2, b3))
+    ghost try_from_gives = { λ number kind. kind ≡ ok_or (kind_at number) RecordUnknown };
+
+    fn try_from(number: u8) -> Result<Kind, Refusal> {
+        match number {
+            0 => Ok(Kind::Direct),
+            1 => Ok(Kind::Queue),
+            2 => Ok(Kind::PerCell),
+            _ => Err(Refusal::RecordUnknown),
+        }
+    }
 }
 
 // The record that the bytes begin with. Refused where fewer than four bytes are there (16), where the length and the kind are those
@@ -40,11 +44,17 @@ pub fn first_record(bytes: &[u8]) -> Result<Record, Refusal>
     let [l0, l1, k0, k1, rest @ ..] = bytes else {
         return Err(Refusal::RecordCutShort);
     };
-    match (word(*l0, *l1), word(*k0, *k1)) {
+    match (
+        u16::from_le_bytes([*l0, *l1]),
+        u16::from_le_bytes([*k0, *k1]),
+    ) {
         (8, 1) => setup(rest),
         (20, 2) => instruction(rest),
-        (6, 3) => run(rest),
-        (6, 4) => drain(rest),
+        (6, 3) => pair(rest).map(|(thread, instruction)| Record::Run {
+            thread,
+            instruction,
+        }),
+        (6, 4) => pair(rest).map(|(thread, cell)| Record::Drain { thread, cell }),
         _ => Err(Refusal::RecordUnknown),
     }
 }
@@ -58,13 +68,8 @@ fn setup(body: &[u8]) -> Result<Record, Refusal>
     if *zero != 0 {
         return Err(Refusal::RecordUnknown);
     }
-    let kind = match *kind {
-        0 => Kind::Direct,
-        1 => Kind::Queue,
-        2 => Kind::PerCell,
-        _ => return Err(Refusal::RecordUnknown),
-    };
-    let strong = word(*s0, *s1);
+    let kind = Kind::try_from(*kind)?;
+    let strong = u16::from_le_bytes([*s0, *s1]);
     Ok(Record::Setup(Setup { kind, strong }))
 }
 
@@ -97,31 +102,17 @@ fn instruction(body: &[u8]) -> Result<Record, Refusal>
         operation: *operation,
         tag_a: *tag_a,
         tag_b: *tag_b,
-        a: long(*a0, *a1, *a2, *a3),
-        b: long(*b0, *b1, *b2, *b3),
+        a: u32::from_le_bytes([*a0, *a1, *a2, *a3]),
+        b: u32::from_le_bytes([*b0, *b1, *b2, *b3]),
     }))
 }
 
-fn run(body: &[u8]) -> Result<Record, Refusal>
-    ensures { result ≡ shaped (Some run_shape) body.now }
+// The two bytes of a run or a drain.
+fn pair(body: &[u8]) -> Result<(u8, u8), Refusal>
+    ensures { result ≡ cond (nat_le 2 (length body.now)) (Ok (byte body.now 0, byte body.now 1)) (Err RecordCutShort) }
 {
-    let [thread, instruction, ..] = body else {
+    let [first, second, ..] = body else {
         return Err(Refusal::RecordCutShort);
     };
-    Ok(Record::Run {
-        thread: *thread,
-        instruction: *instruction,
-    })
-}
-
-fn drain(body: &[u8]) -> Result<Record, Refusal>
-    ensures { result ≡ shaped (Some drain_shape) body.now }
-{
-    let [thread, cell, ..] = body else {
-        return Err(Refusal::RecordCutShort);
-    };
-    Ok(Record::Drain {
-        thread: *thread,
-        cell: *cell,
-    })
+    Ok((*first, *second))
 }

@@ -6,6 +6,7 @@ mod faults;
 mod fields;
 mod layout;
 mod printing;
+mod reader;
 mod reading;
 mod records;
 mod theorems;

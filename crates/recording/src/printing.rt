@@ -1,15 +1,17 @@
 // Printing the verdict on a recording.
-ghost use Rattle.std.specs.Prelude.{◌≡◌, ◌≤◌, length, IfOk, string_bytes};
-ghost use Rattle.refusal.specs.Refusals.{number_of};
-ghost use Rattle.recording.specs.Texts.{Printed, Says, fault_text, first_line, verdict_text};
-ghost use Rattle.recording.specs.Unprinted.{unprinted_number};
+ghost use Rattle.std.specs.Prelude.{◌≡◌, ◌≤◌, length, IfOk, MatchResult, Some, string_bytes};
+ghost use Rattle.recording.specs.Texts.{Printed, TextOf, verdict_text};
+ghost use Rattle.recording.specs.Unprinted.{unprinted_number, unprinted_words};
 ghost use Rattle.recording.specs.declared.printing.Unprinted.TheVariants.{NoMemory};
 
-use super::faults::{Failure, Fault};
+use super::faults::Failure;
 use super::reading::judge_recording;
 use refusal::Refusal;
 use replay::{Name, Verdict};
 use std::alloc::{AllocError, Global};
+use std::error::Error;
+use std::fmt;
+use std::fmt::Write;
 
 // the fewest bytes that a page may have
 const PAGE: usize = 2048;
@@ -50,6 +52,19 @@ impl From<AllocError> for Unprinted {
     }
 }
 
+impl fmt::Display for Unprinted {
+    ghost output = { λ unprinted. Some (unprinted_words unprinted) };
+
+    fn fmt<W: fmt::Write>(&self, f: &mut fmt::Formatter<W>) -> fmt::Result {
+        match self {
+            Unprinted::PageTooShort => write!(f, "the page is too short"),
+            Unprinted::NoMemory => write!(f, "no memory"),
+        }
+    }
+}
+
+impl Error for Unprinted {}
+
 // Prints the verdict on a recording, or its fault, at the front of the page, and answers how many bytes that are. The page's later bytes
 // are as before. A page of fewer than 2,048 bytes is refused, which is tested first, and is as before.
 pub fn print_recording(heap: Global, recording: &[u8], page: &mut [u8]) -> Result<usize, Unprinted>
@@ -65,46 +80,28 @@ pub fn print_recording(heap: Global, recording: &[u8], page: &mut [u8]) -> Resul
 }
 
 // The text of what reading the recording answers.
-fn text_of(heap: Global, recording: &[u8]) -> Result<String, AllocError>
-    ensures says { IfOk result (λ text. Says recording.now (string_bytes text)) }
-    ensures bound { IfOk result (λ text. length (string_bytes text) ≤ 2048) }
+fn text_of(heap: Global, recording: &[u8]) -> Result<String, Unprinted>
+    ensures { MatchResult result (λ text. TextOf recording.now (string_bytes text)) (λ why. why ≡ NoMemory) }
 {
     let mut list = [BLANK; MOST];
     match judge_recording(heap, recording, &mut list) {
-        Ok(verdict) => {
-            let entries = verdict.entries;
-            verdict_text(heap, verdict, &list[0..entries])
-        }
-        Err(Failure::At(fault)) => fault_text(heap, fault),
-        Err(Failure::Memory) => Err(AllocError),
+        Ok(verdict) => Ok(verdict_text(heap, verdict, &list[..verdict.entries])?),
+        Err(Failure::At(fault)) => Ok(format!(in heap; "{fault}\n")?),
+        Err(Failure::Memory) => Err(Unprinted::NoMemory),
     }
 }
 
 fn verdict_text(heap: Global, verdict: Verdict, names: &[Name]) -> Result<String, AllocError>
     ensures { IfOk result (λ text. string_bytes text ≡ verdict_text verdict names.now) }
 {
-    let mut text = first_line(heap, verdict)?;
+    let Verdict {
+        word,
+        entries,
+        delayed,
+    } = verdict;
+    let mut text = format!(in heap; "{word} {entries} {delayed}\n")?;
     for name in names {
-        let line = format!(in heap; "{name}\n")?;
-        text.push_str(line.as_str())?;
+        writeln!(text, "{name}")?;
     }
     Ok(text)
-}
-
-fn first_line(heap: Global, verdict: Verdict) -> Result<String, AllocError>
-    ensures { IfOk result (λ text. string_bytes text ≡ first_line verdict) }
-{
-    let word = verdict.word;
-    let entries = verdict.entries;
-    let delayed = verdict.delayed;
-    format!(in heap; "{word} {entries} {delayed}\n")
-}
-
-fn fault_text(heap: Global, fault: Fault) -> Result<String, AllocError>
-    ensures { IfOk result (λ text. string_bytes text ≡ fault_text fault) }
-{
-    let refusal = fault.refusal;
-    let index = fault.place.index;
-    let byte = fault.place.byte;
-    format!(in heap; "refused {refusal} {index} {byte}\n")
 }

@@ -1,25 +1,27 @@
 // Reading a recording and judging its run.
-ghost use Rattle.std.specs.Prelude.{◌≡◌, ◌+◌, ◌^◌, ◌<◌, ◌≤◌, [], length, drop, MatchResult};
+ghost use Rattle.std.specs.Prelude.{◌≡◌, ◌<◌, [], length, MatchResult};
+ghost use Rattle.std.specs.Option.{ok_or};
+ghost use Rattle.refusal.specs.declared.Refusal.TheVariants.{RecordOutOfPlace};
 ghost use Rattle.program.specs.Programs.{lines_of};
-ghost use Rattle.recording.specs.Layout.{size as record_size};
-ghost use Rattle.recording.specs.Meaning.{chosen_by, moving, read_from, reading, records, rules_of};
-ghost use Rattle.recording.specs.Steps.{Adds, AtFault, Peeked, Starts, LineAdded, move_of, past_of};
-ghost use Rattle.recording.specs.Verdicts.{ReadAs, fault_at};
-ghost use Rattle.recording.specs.declared.faults.Failure.TheVariants.{At};
+ghost use Rattle.present.specs.Data.{fresh_held};
+ghost use Rattle.replay.specs.Views.{has_bit, held};
+ghost use Rattle.recording.specs.Meaning.{chosen_by, kind_rules, move_of, reading, rules_of};
+ghost use Rattle.recording.specs.Steps.{Adds, AtFault, LineAdded, Starts, moving_from};
+ghost use Rattle.recording.specs.Verdicts.{ReadAs};
 
-use super::faults::{Failure, Fault, Place};
-use super::layout::first_record;
+use super::faults::Failure;
+use super::reader::Reader;
 use super::records::{Fields, Kind, Record, Setup};
 use buffers::{Direct, PerCell, Queue, StoreBuffer, StrongCells};
 use ledger::Move;
-use program::Program;
+use program::{Line, Program};
 use refusal::Refusal;
 use replay::{Name, Replay, Verdict};
 use std::alloc::Global;
+use std::array;
 
-const CELLS: usize = 16;
-
-const FIRST: Place = Place { index: 0, byte: 0 };
+// the most lines that a program has
+const LINES: usize = 128;
 
 // Reads a recording, replays its run over its store buffer, and judges it into the list. Answers the verdict, or the first fault with
 // its record and byte, and then the list is as before; want of memory is told before anything is written.
@@ -30,23 +32,14 @@ pub fn judge_recording(
 ) -> Result<Verdict, Failure>
     ensures { ReadAs (reading recording.now) (length recording.now) list.old result list.new }
 {
-    let setup = read_setup(recording)?;
+    let mut reader = Reader::new(recording);
+    let setup = reader.read_setup()?;
     let mut program = Program::new(heap)?;
-    let place = add_instructions(recording, Place { index: 1, byte: 8 }, &mut program)?;
-    let chosen = chosen_cells(setup.strong);
+    reader.add_instructions(&mut program)?;
     match setup.kind {
-        Kind::Direct => {
-            let buffer = StrongCells::new(Direct::new(heap)?, chosen);
-            replay_moves(heap, program, buffer, recording, place, list)
-        }
-        Kind::Queue => {
-            let buffer = StrongCells::new(Queue::new(heap)?, chosen);
-            replay_moves(heap, program, buffer, recording, place, list)
-        }
-        Kind::PerCell => {
-            let buffer = StrongCells::new(PerCell::new(heap)?, chosen);
-            replay_moves(heap, program, buffer, recording, place, list)
-        }
+        Kind::Direct => reader.judge_over(heap, Direct::new(heap)?, setup, program, list),
+        Kind::Queue => reader.judge_over(heap, Queue::new(heap)?, setup, program, list),
+        Kind::PerCell => reader.judge_over(heap, PerCell::new(heap)?, setup, program, list),
     }
 }
 
@@ -54,82 +47,35 @@ pub fn judge_recording(
 fn chosen_cells(mask: u16) -> [bool; 16]
     ensures { result ≡ chosen_by mask }
 {
-    let mut chosen = [false; 16];
-    for cell in 0..CELLS {
-        chosen[cell] = mask >> cell & 1 == 1;
-    }
-    chosen
+    array::from_fn(
+        |cell|
+            requires { cell < 16 }
+            ensures { result ≡ has_bit cell mask }
+        { mask >> cell & 1 == 1 },
+    )
 }
 
-impl Place {
-    // The refusal of the record there.
-    fn refused(self, refusal: Refusal) -> Failure
-        ensures { result ≡ At (fault_at refusal self.index self.byte) }
-    {
-        Failure::At(Fault {
-            refusal,
-            place: self,
-        })
-    }
+// The move that a record offers.
+impl TryFrom<Record> for Move {
+    type Error = Refusal;
 
-    // Where the record behind that one stands.
-    fn past(self, passed: Record) -> Place
-        requires index { self.index ≤ self.byte }
-        requires byte { self.byte + record_size passed < 2 ^ 64 }
-        ensures { result ≡ past_of self passed }
-    {
-        Place {
-            index: self.index + 1,
-            byte: self.byte + passed.size(),
-        }
-    }
-}
+    ghost try_from_gives = { λ found offered. offered ≡ ok_or (move_of found) RecordOutOfPlace };
 
-impl Record {
-    // The move that it offers, if it offers one.
-    fn as_move(self) -> Option<Move>
-        ensures { result ≡ move_of self }
-    {
-        match self {
+    fn try_from(found: Record) -> Result<Move, Refusal> {
+        match found {
             Record::Run {
                 thread,
                 instruction,
-            } => Some(Move::Run {
+            } => Ok(Move::Run {
                 thread: thread as usize,
                 instruction: instruction as usize,
             }),
-            Record::Drain { thread, cell } => Some(Move::Drain {
+            Record::Drain { thread, cell } => Ok(Move::Drain {
                 thread: thread as usize,
                 cell: cell as usize,
             }),
-            Record::Setup(_) | Record::Instruction(_) => None,
+            Record::Setup(_) | Record::Instruction(_) => Err(Refusal::RecordOutOfPlace),
         }
-    }
-}
-
-// The record at a place, or none behind the last.
-fn record_at(recording: &[u8], place: Place) -> Result<Option<Record>, Failure>
-    requires { place.byte ≤ length recording.now }
-    ensures { Peeked recording.now place result }
-{
-    let from = place.byte;
-    let rest = &recording[from..];
-    if rest.is_empty() {
-        return Ok(None);
-    }
-    match first_record(rest) {
-        Ok(found) => Ok(Some(found)),
-        Err(refusal) => Err(place.refused(refusal)),
-    }
-}
-
-// The setup, which comes first.
-fn read_setup(recording: &[u8]) -> Result<Setup, Failure>
-    ensures { MatchResult result (Starts recording.now) (AtFault (reading recording.now)) }
-{
-    match record_at(recording, FIRST)? {
-        Some(Record::Setup(setup)) => Ok(setup),
-        _ => Err(FIRST.refused(Refusal::RecordOutOfPlace)),
     }
 }
 
@@ -137,62 +83,75 @@ fn read_setup(recording: &[u8]) -> Result<Setup, Failure>
 fn add_line(program: &mut Program, fields: Fields) -> Result<(), Refusal>
     ensures { LineAdded (lines_of program.old) fields result (lines_of program.new) }
 {
-    let Some(line) = fields.line() else {
-        return Err(if program.len() >= 128 {
-            Refusal::ProgramFull
-        } else {
-            Refusal::FieldOutOfRange
-        });
-    };
+    if program.len() >= LINES {
+        return Err(Refusal::ProgramFull);
+    }
+    let line = Line::try_from(fields)?;
     program.add(line)?;
     Ok(())
 }
 
-// Adds the instructions from a place on, and answers where the next record stands.
-fn add_instructions(recording: &[u8], start: Place, program: &mut Program) -> Result<Place, Failure>
-    requires index { start.index ≤ start.byte }
-    requires byte { start.byte ≤ length recording.now }
-    ensures { Adds recording.now start (lines_of program.old) result (lines_of program.new) }
-{
-    let mut place = start;
-    while let Some(found) = record_at(recording, place)? {
-        let Record::Instruction(fields) = found else {
-            return Ok(place);
+impl Reader<'_> {
+    // The setup, which comes first.
+    fn read_setup(&mut self) -> Result<Setup, Failure>
+        requires { self.old.place ≡ record { index = 0; byte = 0 } }
+        ensures recording { self.new.recording.now ≡ self.old.recording.now }
+        ensures setup { MatchResult result (Starts self.old.recording.now self.new.place) (AtFault (reading self.old.recording.now)) }
+    {
+        let found = self.peek()?;
+        let Some(Record::Setup(setup)) = found else {
+            return self.placed(Err(Refusal::RecordOutOfPlace));
         };
-        if let Err(refusal) = add_line(program, fields) {
-            return Err(place.refused(refusal));
-        }
-        place = place.past(found);
+        self.pass(Record::Setup(setup));
+        Ok(setup)
     }
-    Ok(place)
-}
 
-// Offers the moves from a place on to a replay of the program over the buffer, and judges it into the list.
-fn replay_moves<B: StoreBuffer + Drop>(
-    heap: Global,
-    program: Program,
-    buffer: B,
-    recording: &[u8],
-    start: Place,
-    list: &mut [Name],
-) -> Result<Verdict, Failure>
-    requires index { start.index ≤ start.byte }
-    requires byte { start.byte ≤ length recording.now }
-    ensures { (s : Setup) → B.StoreBuffer.rules buffer ≡ rules_of s → ReadAs (read_from (moving s (lines_of program) []) start.index start.byte (records (drop start.byte recording.now))) (length recording.now) list.old result list.new }
-{
-    let mut replay = Replay::new(heap, program, buffer)?;
-    let mut place = start;
-    while let Some(found) = record_at(recording, place)? {
-        let Some(offered) = found.as_move() else {
-            return Err(place.refused(Refusal::RecordOutOfPlace));
-        };
-        if let Err(refusal) = replay.offer(offered) {
-            return Err(place.refused(refusal));
+    // Adds the instructions from here on.
+    fn add_instructions(&mut self, program: &mut Program) -> Result<(), Failure>
+        ensures recording { self.new.recording.now ≡ self.old.recording.now }
+        ensures added { Adds self.old.recording.now self.old.place (lines_of program.old) result self.new.place (lines_of program.new) }
+    {
+        while let Some(found) = self.peek()? {
+            let Record::Instruction(fields) = found else {
+                return Ok(());
+            };
+            self.placed(add_line(program, fields))?;
+            self.pass(found);
         }
-        place = place.past(found);
+        Ok(())
     }
-    match replay.judge(list) {
-        Ok(verdict) => Ok(verdict),
-        Err(refusal) => Err(place.refused(refusal)),
+
+    // Judges the moves from here on, of the program over the strong cells of the setup laid over a buffer of its kind.
+    fn judge_over<B: StoreBuffer + Drop>(
+        &mut self,
+        heap: Global,
+        below: B,
+        setup: Setup,
+        program: Program,
+        list: &mut [Name],
+    ) -> Result<Verdict, Failure>
+        requires { B.StoreBuffer.rules below ≡ kind_rules setup.kind }
+        ensures { ReadAs (moving_from self.old.recording.now self.old.place (lines_of program) [] setup) (length self.old.recording.now) list.old result list.new }
+    {
+        let chosen = chosen_cells(setup.strong);
+        let replay = Replay::new(heap, program, StrongCells::new(below, chosen))?;
+        self.judge_moves(replay, list)
+    }
+
+    // Offers the moves from here on to a fresh replay, and judges it into the list.
+    fn judge_moves<B: StoreBuffer + Drop>(
+        &mut self,
+        mut replay: Replay<B>,
+        list: &mut [Name],
+    ) -> Result<Verdict, Failure>
+        requires { held (B.StoreBuffer.lists replay.buffer) replay.state ≡ fresh_held }
+        ensures { (s : Setup) → B.StoreBuffer.rules replay.buffer ≡ rules_of s → ReadAs (moving_from self.old.recording.now self.old.place (lines_of replay.program) [] s) (length self.old.recording.now) list.old result list.new }
+    {
+        while let Some(found) = self.peek()? {
+            let offered = self.placed(Move::try_from(found))?;
+            self.placed(replay.offer(offered))?;
+            self.pass(found);
+        }
+        self.placed(replay.judge(list))
     }
 }

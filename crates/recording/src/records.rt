@@ -15,7 +15,8 @@ pub struct Setup {
     pub strong: u16,
 }
 
-// The fields of an instruction as they stand in its record, in their order. They may be out of range.
+// The fields of an instruction as they stand in its record, in their order. They may be out of range, and stay bytes: from any bytes a
+// record is read back, so a case for each number would need one more for the numbers that mean nothing, and be no plainer.
 #[derive(Clone, Copy, PartialEq, Eq, Debug)]
 pub struct Fields {
     pub thread: u8,

@@ -1,7 +1,6 @@
 // Judges the recording on standard input, and prints the verdict or the fault.
 #![tactic(auto)]
 
-use anyhow::anyhow;
 use recording::print_recording;
 use std::io::{Read, Write};
 
@@ -16,11 +15,9 @@ fn recorded(rt: &HostRuntime) -> anyhow::Result<Vec<u8>> {
 
 fn run(rt: &HostRuntime) -> anyhow::Result<()> {
     let recording = recorded(rt)?;
-    let mut page = [0u8; 2048];
-    let Ok(count) = print_recording(rt.alloc(), recording.as_slice(), &mut page) else {
-        return Err(anyhow!("no memory"));
-    };
-    rt.stdout().write_all(&page[0..count])?;
+    let mut page = [0; 2048];
+    let count = print_recording(rt.alloc(), recording.as_slice(), &mut page)?;
+    rt.stdout().write_all(&page[..count])?;
     Ok(())
 }
 
