@@ -12,6 +12,8 @@ pub(crate) const THREADS: usize = 8;
 pub struct State {
     threads: [Thread; THREADS],
     cells: [Cell; CELLS],
+    // a bit for each thread that delayed a store of its own, the lowest for thread 0
+    delayed: u8,
     // a run has at most 256 actions
     ghost few: { sum_by (λ t. vec_len t.actions) threads ≤ 256 },
 }

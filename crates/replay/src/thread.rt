@@ -9,8 +9,6 @@ pub struct Thread {
     registers: [u32; 8],
     // the actions in the order in which they ran
     actions: Vec<Action>,
-    // whether it delayed a store of its own
-    delayed: bool,
     // room for every action was had when the thread was made
     ghost room: { 256 ≤ vec_capacity actions },
 }

@@ -36,6 +36,7 @@ impl State {
         Ok(State {
             threads,
             cells: [UNTOUCHED; CELLS],
+            delayed: 0,
         })
     }
 
@@ -47,6 +48,7 @@ impl State {
             thread.clear();
         }
         self.cells = [UNTOUCHED; CELLS];
+        self.delayed = 0;
     }
 
     // A thread by its number, if there is one.
@@ -129,10 +131,7 @@ impl State {
     pub(crate) fn delaying(&self) -> u32
         ensures { result ≡ delaying_in (present_of self.now) }
     {
-        self.threads
-            .iter()
-            .map(|thread| u32::from(thread.delayed()))
-            .sum()
+        self.delayed.count_ones()
     }
 
     // Keeps the action of a thread that ran a line, and whether it delayed a store of its own by that.
@@ -140,7 +139,10 @@ impl State {
         requires { how_many_in (present_of self.old) < 256 }
         ensures { present_of self.new ≡ noted_ran (present_of self.old) turn.thread turn.line (noted_of action) delays }
     {
-        self.threads[turn.thread].run(turn, action, delays);
+        self.threads[turn.thread].run(turn, action);
+        if delays {
+            self.delayed |= 1 << turn.thread;
+        }
     }
 
     // Notes that the thread's store at a position was drained into a cell, with that value.

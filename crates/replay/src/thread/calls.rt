@@ -1,5 +1,5 @@
 // What is done with one thread.
-ghost use Rattle.std.specs.Prelude.{◌≡◌, ◌<◌, [], ◌∷◌, ◌++◌, ◌||◌, false, length, IfOk};
+ghost use Rattle.std.specs.Prelude.{◌≡◌, ◌<◌, [], ◌∷◌, ◌++◌, length, IfOk};
 ghost use Rattle.std.specs.List.{slice_get};
 ghost use Rattle.std.specs.Option.{option_map};
 ghost use Rattle.ledger.specs.Ledgers.{operand as operand_value, start_local};
@@ -33,14 +33,12 @@ impl Thread {
     pub(crate) fn new(heap: Global) -> Result<Thread, AllocError>
         ensures local { IfOk result (λ thread. local_of thread ≡ start_local) }
         ensures noted { IfOk result (λ thread. noted_in thread ≡ []) }
-        ensures delayed { IfOk result (λ thread. thread.delayed ≡ false) }
     {
         let actions = Vec::with_capacity(heap, MOST)?;
         Ok(Thread {
             label: 0,
             registers: [0; 8],
             actions,
-            delayed: false,
         })
     }
 
@@ -48,12 +46,10 @@ impl Thread {
     pub(crate) fn clear(&mut self)
         ensures local { local_of self.new ≡ start_local }
         ensures noted { noted_in self.new ≡ [] }
-        ensures delayed { self.new.delayed ≡ false }
     {
         self.label = 0;
         self.registers = [0; 8];
         self.actions.clear();
-        self.delayed = false;
     }
 
     // Where the thread stands.
@@ -68,13 +64,6 @@ impl Thread {
         ensures { result ≡ length (noted_in self.now) }
     {
         self.actions.len()
-    }
-
-    // Whether it delayed a store of its own.
-    pub(crate) fn delayed(&self) -> bool
-        ensures { result ≡ self.now.delayed }
-    {
-        self.delayed
     }
 
     // The action at a position, if there is one.
@@ -114,13 +103,11 @@ impl Thread {
             .rposition(|action| action.left_waiting(cell))
     }
 
-    // Runs a line: moves on to the next label, keeps the action, and notes whether the thread delayed a store of its own by that. A
-    // load and a compute write their value into their register.
-    pub(crate) fn run(&mut self, turn: Turn, action: Action, delays: bool)
+    // Runs a line: moves on to the next label, and keeps the action. A load and a compute write their value into their register.
+    pub(crate) fn run(&mut self, turn: Turn, action: Action)
         requires { length (noted_in self.old) < 256 }
         ensures local { local_of self.new ≡ ran turn.line action.value (local_of self.old) }
         ensures noted { noted_in self.new ≡ noted_in self.old ++ noted_of action ∷ [] }
-        ensures delayed { self.new.delayed ≡ (self.old.delayed || delays) }
     {
         self.label = turn.line.next;
         match turn.line.instruction {
@@ -131,7 +118,6 @@ impl Thread {
             Instruction::Store { .. } | Instruction::Fence | Instruction::Assert { .. } => {}
         }
         self.actions.push_reserved(action);
-        self.delayed |= delays;
     }
 
     // Notes what the store at a position overwrote in memory.
@@ -139,7 +125,6 @@ impl Thread {
         requires { position < length (noted_in self.old) }
         ensures local { local_of self.new ≡ local_of self.old }
         ensures noted { noted_in self.new ≡ overwriting (source_of source) position (noted_in self.old) }
-        ensures delayed { self.new.delayed ≡ self.old.delayed }
     {
         self.actions[position].over = Some(source);
     }
