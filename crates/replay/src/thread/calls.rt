@@ -12,7 +12,7 @@ ghost use Rattle.replay.specs.Views.{local_of, noted_in, noted_of};
 use super::super::actions::{Access, Action, MOST};
 use super::super::names::Source;
 use super::super::turn::Turn;
-use super::Thread;
+use super::{REGISTERS, Thread};
 use program::{Instruction, Operand};
 use std::alloc::{AllocError, Global};
 
@@ -38,7 +38,7 @@ impl Thread {
         let actions = Vec::with_capacity(heap, MOST)?;
         Ok(Thread {
             label: 0,
-            registers: [0; 8],
+            registers: [0; REGISTERS],
             actions,
             delayed: false,
         })
@@ -51,7 +51,7 @@ impl Thread {
         ensures delayed { self.new.delayed ≡ false }
     {
         self.label = 0;
-        self.registers = [0; 8];
+        self.registers = [0; REGISTERS];
         self.actions.clear();
         self.delayed = false;
     }
