@@ -12,7 +12,7 @@ ghost use Rattle.replay.specs.Views.{local_of, noted_in, noted_of};
 use super::super::actions::{Access, Action, MOST};
 use super::super::names::Source;
 use super::super::turn::Turn;
-use super::Thread;
+use super::{REGISTERS, Thread};
 use program::{Instruction, Operand};
 use std::alloc::{AllocError, Global};
 
@@ -37,7 +37,7 @@ impl Thread {
         let actions = Vec::with_capacity(heap, MOST)?;
         Ok(Thread {
             label: 0,
-            registers: [0; 8],
+            registers: [0; REGISTERS],
             actions,
         })
     }
@@ -48,7 +48,7 @@ impl Thread {
         ensures noted { noted_in self.new ≡ [] }
     {
         self.label = 0;
-        self.registers = [0; 8];
+        self.registers = [0; REGISTERS];
         self.actions.clear();
     }
 
