@@ -1,7 +1,9 @@
+pub mod Bits
 pub mod Judged
 pub mod Judgements
 pub mod Keeping
 pub mod Numbered
+pub mod Ones
 pub mod Performing
 pub mod Stating
 pub mod Steps

@@ -1,9 +1,9 @@
 -- The views of a State: what they tell of one thread, and what they become where a thread or a cell is changed.
-use Rattle.std.proofs.Common.{◌≡◌, ℕ, zero, suc, ◌+◌, ◌<◌, ◌≤◌, Bool, false, ◌||◌, List, [], ◌∷◌, ◌++◌, map, length, get_or, set, replicate, None, vec_items, vec_len, sym, refl, ap, ◌∙◌, ⊎_elim, suc-le-suc, arith}
+use Rattle.std.proofs.Common.{◌≡◌, ℕ, zero, suc, ◌+◌, ◌<◌, ◌≤◌, Bool, List, [], ◌∷◌, ◌++◌, map, length, get_or, set, replicate, None, vec_items, vec_len, sym, refl, ap, ◌∙◌, ⊎_elim, suc-le-suc, arith}
 use mathlib.Core.Path.{fun_ext}
 use Rattle.std.specs.List.{sum_by}
-use Rattle.std.proofs.lemmas.List.Sums.{sum_by_from}
-use Rattle.std.proofs.lemmas.List.{get_or-map, get_or-set_other, get_or-set_same, length-map, map-set, set-get_or}
+use Rattle.std.proofs.lemmas.List.Sums.{sum_by-set, sum_by_from}
+use Rattle.std.proofs.lemmas.List.{get_or-map, get_or-set_other, get_or-set_same, length-map, length_push, map-set, set-get_or}
 use Rattle.program.specs.declared.lines.Line.{Line}
 use Rattle.ledger.specs.Ledgers.{Local, start_local, update}
 use Rattle.ledger.specs.Moves.{Read, ran}
@@ -11,11 +11,12 @@ use Rattle.ledger.specs.Tests.{sum_over, threads}
 use Rattle.ledger.proofs.Counts.{Among, a_thread}
 use Rattle.ledger.proofs.Growing.{update_all}
 use Rattle.present.specs.Data.{Noted, Present, fresh, how_many_in, untouched}
-use Rattle.replay.specs.Views.{local_of, noted_in, noted_of, present_of, read_of}
+use Rattle.replay.specs.Views.{has_bit, local_of, noted_in, noted_of, present_of, read_of}
 use Rattle.replay.specs.declared.actions.Action.{Action}
 use Rattle.replay.specs.declared.actions.Cell.{Cell}
 use Rattle.replay.specs.declared.state.State.{State}
 use Rattle.replay.specs.declared.thread.Thread.{Thread}
+use Rattle.replay.proofs.Bits.{no_bit}
 
 -- Data with the same parts are the same.
 pub present_same : {l l' : ℕ → Local} {m m' : ℕ → Read} {n n' : ℕ → List Noted} {d d' : ℕ → Bool} → l ≡ l' → m ≡ m' → n ≡ n' → d ≡ d' → ◌≡◌ {A = Present} (record { locals = l; memory = m; noted = n; delayed = d }) (record { locals = l'; memory = m'; noted = n'; delayed = d' })
@@ -53,11 +54,6 @@ module _ (s : State) (t : ℕ) (before after : Thread) (action : Action) (within
   noted_more kept =
       changed noted_in s.threads t after ((present_of s).noted t ++ noted_of action ∷ []) [] within (kept ∙ ap (λ xs. xs ++ noted_of action ∷ []) (thread_viewed noted_in s t before [] within is))
 
-  -- A thread's note of a delay: the view of those of all.
-  pub delayed_more : (delays : Bool) → after.delayed ≡ (before.delayed || delays) → (λ u. get_or (map (λ own. own.delayed) (set s.threads t after)) u false) ≡ update (present_of s).delayed t ((present_of s).delayed t || delays)
-  delayed_more delays noted =
-      changed (λ own. own.delayed) s.threads t after ((present_of s).delayed t || delays) false within (noted ∙ ap (λ b. b || delays) (thread_viewed (λ own. own.delayed) s t before false within is))
-
 -- At each place of a list of nothing but d, and past its end, stands d.
 getD_same : {Y : Type 0} (n : ℕ) (d : Y) (u : ℕ) → get_or (replicate n d) u d ≡ d
 getD_same zero d u = refl
@@ -76,7 +72,6 @@ blank = record { value = 0; last = None }
 pub record AtStart (own : Thread) : Type 0 where
   pub local : local_of own ≡ start_local
   pub noted : noted_in own ≡ []
-  pub delayed : own.delayed ≡ false
 
 -- Of each element the same is told.
 all_told : {X Y : Type 0} (f : X → Y) (d : Y) (xs : List X) → ((i : ℕ) (e : X) → i < length xs → f (get_or xs i e) ≡ d) → map f xs ≡ replicate (length xs) d
@@ -85,14 +80,14 @@ all_told f d (x ∷ xs) each =
     ap (λ y. y ∷ map f xs) (each 0 x (omega arith))
     ∙ ap (λ ys. d ∷ ys) (all_told f d xs (λ i e within. each (suc i) e (suc-le-suc within)))
 
--- Threads at their start, untouched cells and no thread that delayed are the data at the start.
-pub fresh_from : (ts : List Thread) → ((i : ℕ) (e : Thread) → i < length ts → AtStart (get_or ts i e)) → ◌≡◌ {A = Present} (record { locals = λ t. get_or (map local_of ts) t start_local; memory = λ c. get_or (map read_of (replicate 16 blank)) c untouched; noted = λ t. get_or (map noted_in ts) t []; delayed = λ t. get_or (map (λ own. own.delayed) ts) t false }) fresh
+-- Threads at their start, untouched cells and an empty mask are the data at the start.
+pub fresh_from : (ts : List Thread) → ((i : ℕ) (e : Thread) → i < length ts → AtStart (get_or ts i e)) → ◌≡◌ {A = Present} (record { locals = λ t. get_or (map local_of ts) t start_local; memory = λ c. get_or (map read_of (replicate 16 blank)) c untouched; noted = λ t. get_or (map noted_in ts) t []; delayed = λ t. has_bit t 0 }) fresh
 fresh_from ts each =
     present_same
     (same_everywhere (map local_of ts) (length ts) start_local (all_told local_of start_local ts (λ i e within. (each i e within).local)))
     (same_everywhere (map read_of (replicate 16 blank)) 16 untouched refl)
     (same_everywhere (map noted_in ts) (length ts) [] (all_told noted_in [] ts (λ i e within. (each i e within).noted)))
-    (same_everywhere (map (λ own. own.delayed) ts) (length ts) false (all_told (λ own. own.delayed) false ts (λ i e within. (each i e within).delayed)))
+    (fun_ext no_bit)
 
 -- how many actions a thread has room taken for
 abbrev pub kept : Thread → ℕ
@@ -118,6 +113,14 @@ over_eight f d g (a ∷ b ∷ c ∷ p ∷ q ∷ r ∷ s ∷ t ∷ u ∷ rest) ei
 -- The number of all actions is the sum of what is kept of each thread.
 pub how_many_kept : (s : State) → length s.threads ≡ 8 → how_many_in (present_of s) ≡ sum_by kept s.threads
 how_many_kept s eight = over_eight noted_in [] length s.threads eight ∙ ap (λ f. sum_by f s.threads) (fun_ext (λ own. sym (kept_noted own)))
+
+-- Where one thread has an action more, and there were fewer than 256, there are at most 256.
+pub few_more : (s : State) (t : ℕ) (d after : Thread) (x : Noted) → length s.threads ≡ 8 → t < 8 → noted_in after ≡ noted_in (get_or s.threads t d) ++ x ∷ [] → how_many_in (present_of s) < 256 → sum_by kept (set s.threads t after) ≤ 256
+few_more s t d after x eight below more room =
+    let before = get_or s.threads t d in
+    let changed = sum_by-set kept s.threads t after d (omega (arith, eight, below)) in
+    let one = ap length more ∙ length_push (noted_in before) x in
+    omega (arith, changed, one, kept_noted before, kept_noted after, how_many_kept s eight, room)
 
 -- What one has is no more than the sum over a list that it is among.
 one_among : (f : ℕ → ℕ) (t : ℕ) (us : List ℕ) → Among t us → f t ≤ sum_over f us

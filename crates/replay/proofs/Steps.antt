@@ -1,9 +1,7 @@
 -- What the steps of an offered move come to, over what the replay holds.
-use Rattle.std.proofs.Common.{◌≡◌, ℕ, ◌+◌, ◌<◌, ◌≤◌, Bool, true, false, cond, not, eqb, leb, List, [], ◌∷◌, ◌++◌, length, Some, None, Ok, Err, Option, Result, sym, refl, ap, ◌∙◌, arith, length-set}
-use mathlib.Core.Path.{fun_ext}
+use Rattle.std.proofs.Common.{◌≡◌, ℕ, ◌+◌, ◌<◌, Bool, true, false, cond, not, eqb, leb, List, [], ◌∷◌, length, Some, None, Ok, Err, Option, Result, sym, refl, ap, ◌∙◌, arith}
 use Rattle.std.specs.List.{slice_get}
 use Rattle.std.specs.Option.{ok_or}
-use Rattle.std.proofs.lemmas.List.{length_push}
 use Rattle.std.proofs.lemmas.Bool.{leb-false}
 use Rattle.refusal.specs.declared.Refusal.{Refusal}
 use Rattle.refusal.specs.declared.Refusal.TheVariants.{ThreadOutOfRange, NoSuchInstruction, AtAnotherLabel, RunFull, ThreadNotFree}
@@ -14,12 +12,10 @@ use Rattle.buffers.specs.Laws.{Rules}
 use Rattle.buffers.specs.Lists.{Lists}
 use Rattle.ledger.specs.Actions.{Action as Action'}
 use Rattle.ledger.specs.Answers.{answered}
-use Rattle.ledger.specs.Tests.{guard, sum_over, threads}
+use Rattle.ledger.specs.Tests.{guard}
 use Rattle.ledger.specs.declared.moves.Move.{Move}
 use Rattle.ledger.specs.declared.moves.Move.TheVariants.{Run}
-use Rattle.ledger.proofs.Counts.{one_more}
-use Rattle.ledger.proofs.Growing.{update_all, update_other, update_same}
-use Rattle.present.specs.Calls.{after_move_held, after_run_held, answer_held, form_tested_held, kept_by, line_tested_held, noted_drain, overwriting, put_in, ran_with, run_value_held, tested_held}
+use Rattle.present.specs.Calls.{after_move_held, after_run_held, answer_held, form_tested_held, kept_by, line_tested_held, put_in, ran_with, run_value_held, tested_held}
 use Rattle.present.specs.Data.{Held, Noted, Present, how_many_in, left_waiting, oldest_left, waiting_of}
 use Rattle.replay.specs.Offers.{Offered, acting, held_after}
 use Rattle.replay.specs.declared.actions.Action.{Action}
@@ -105,21 +101,6 @@ offered_run rules ls h t n line there passes = record {
   value = sym ((λ i. answered (passes i) (answer_held ls h (Run t n))) ∙ (λ i. Ok (run_value_held h t n (there i))));
   held = sym ((λ i. kept_by (passes i) h (after_move_held ls h (Run t n))) ∙ (λ i. after_run_held h t n (there i)));
 }
-
--- A kept action is one more.
-pub few_ran : (own : Present) (t : ℕ) (line : Line) (x : Noted) (delays : Bool) → how_many_in own < 256 → how_many_in (noted_ran own t line x delays) ≤ 256
-few_ran own t line x delays room =
-    let more = one_more (λ u. length (own.noted u)) (λ u. length ((noted_ran own t line x delays).noted u)) t
-    (λ u apart. ap length (update_other own.noted t (own.noted t ++ x ∷ []) u apart))
-    (ap length (update_same own.noted t (own.noted t ++ x ∷ [])) ∙ length_push (own.noted t) x) in
-    omega (arith, more, room)
-
--- A drain adds none.
-pub few_drained : (own : Present) (t c v p : ℕ) → how_many_in (noted_drain own t c v p) ≡ how_many_in own
-few_drained own t c v p =
-    ap (λ f. sum_over f threads)
-    (fun_ext (update_all own.noted t (overwriting (own.memory c).source p (own.noted t)) (λ u xs. length xs ≡ length (own.noted u))
-    (length-set (own.noted t) p _) (λ u apart. refl)))
 
 -- The oldest store that is left waiting is one of the kept actions.
 pub oldest_within : (i c : ℕ) (xs : List Noted) (p : ℕ) → oldest_left i c xs ≡ Some p → p < i + length xs

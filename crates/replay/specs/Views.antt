@@ -6,7 +6,7 @@
 -- has_bit       the number has a one at that place, counted from 0 at the lowest
 -- present_of    the whole of a replay's own data
 -- held          that, with the lists of its buffer
-use Rattle.std.specs.Prelude.{ℕ, ◌/◌, ◌%◌, ◌^◌, Bool, false, List, [], map, vec_items, ◌==◌, slice_index, slice_index_or}
+use Rattle.std.specs.Prelude.{ℕ, ◌/◌, ◌%◌, ◌^◌, Bool, List, [], map, vec_items, ◌==◌, slice_index, slice_index_or}
 use Rattle.std.specs.Option.{option_map}
 use Rattle.buffers.specs.Lists.{Lists}
 use Rattle.ledger.specs.Actions.{Access as Access', loads, none, stores}
@@ -46,7 +46,7 @@ present_of s = record {
   locals = λ t. slice_index_or (map local_of s.threads) t start_local;
   memory = λ c. slice_index_or (map read_of s.cells) c untouched;
   noted = λ t. slice_index_or (map noted_in s.threads) t [];
-  delayed = λ t. slice_index_or (map (λ own. own.delayed) s.threads) t false;
+  delayed = λ t. has_bit t s.delayed;
 }
 
 abbrev pub held : Lists → State → Held

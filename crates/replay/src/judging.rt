@@ -37,6 +37,7 @@ impl State {
         let mut places = [0; MOST];
         let numbers = &mut places[..list.len().min(MOST)];
         let written = order_or_ring(&graph, numbers).ok_or(Refusal::TooShort)?;
+        // a conversion would be to a pair, which is no type of this crate
         let (word, entries) = match written {
             Written::Order(entries) => (Word::Sequential, entries),
             Written::Ring(entries) => (Word::Violation, entries),

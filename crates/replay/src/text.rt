@@ -11,8 +11,7 @@ impl fmt::Display for Name {
     ghost output = { λ a. Some (name_text a) };
 
     fn fmt<W: fmt::Write>(&self, f: &mut fmt::Formatter<W>) -> fmt::Result {
-        let thread = self.thread;
-        let position = self.position;
+        let Name { thread, position } = *self;
         write!(f, "{thread} {position}")
     }
 }
@@ -21,11 +20,10 @@ impl fmt::Display for Word {
     ghost output = { λ w. Some (word_text w) };
 
     fn fmt<W: fmt::Write>(&self, f: &mut fmt::Formatter<W>) -> fmt::Result {
-        let word = match *self {
+        f.write_str(match self {
             Word::Sequential => "sequential",
             Word::Violation => "violation",
-        };
-        write!(f, "{word}")
+        })
     }
 }
 
@@ -33,9 +31,11 @@ impl fmt::Display for Verdict {
     ghost output = { λ v. Some (verdict_text v) };
 
     fn fmt<W: fmt::Write>(&self, f: &mut fmt::Formatter<W>) -> fmt::Result {
-        let word = self.word;
-        let entries = self.entries;
-        let delayed = self.delayed;
+        let Verdict {
+            word,
+            entries,
+            delayed,
+        } = *self;
         write!(f, "{word} {entries} {delayed}")
     }
 }

@@ -11,13 +11,12 @@ use std::alloc::{AllocError, Global};
 
 impl<B: StoreBuffer> Replay<B> {
     // A replay at its start, over a buffer that is cleared for it. This is the one call that may find no memory.
-    pub fn new(heap: Global, program: Program, buffer: B) -> Result<Replay<B>, AllocError>
+    pub fn new(heap: Global, program: Program, mut buffer: B) -> Result<Replay<B>, AllocError>
     where
         B: Drop,
         ensures { IfOk result (λ replay. Fresh (B.StoreBuffer.rules buffer) (lines_of program) (standing B.StoreBuffer replay)) }
     {
         let state = State::new(heap)?;
-        let mut buffer = buffer;
         buffer.clear();
         Ok(Replay {
             program,

@@ -8,7 +8,7 @@ invariant_of-result c =
     let threads = c.in_ok-threads.threads in
     let made = c.in_ok-threads.ensures.ok in
     let each : (i : ℕ) (e : Thread) → i < length threads → AtStart (get_or threads i e) =
-    λ i e within. let one = made.at i e (omega (arith, within, made.long)) in record { local = search rules; noted = search rules; delayed = search rules } in
+    λ i e within. let one = made.at i e (omega (arith, within, made.long)) in record { local = search rules; noted = search rules } in
     record { few = none_kept threads made.long each }
 
 pub returns : goal.returns
@@ -16,5 +16,5 @@ returns c =
     let threads = c.in_ok-threads.threads in
     let made = c.in_ok-threads.ensures.ok in
     let each : (i : ℕ) (e : Thread) → i < length threads → AtStart (get_or threads i e) =
-    λ i e within. let one = made.at i e (omega (arith, within, made.long)) in record { local = search rules; noted = search rules; delayed = search rules } in
+    λ i e within. let one = made.at i e (omega (arith, within, made.long)) in record { local = search rules; noted = search rules } in
     fresh_from threads each
