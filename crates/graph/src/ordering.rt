@@ -138,7 +138,7 @@ impl Sorting {
     fn is_placed(&self, node: usize) -> bool
         ensures { result ≡ slice_index_or (marks self.now.standings.items) node false }
     {
-        self.standings.get(node) == Some(&Standing::Placed)
+        matches!(self.standings.get(node), Some(Standing::Placed))
     }
 
     // The lowest node that is ready.
