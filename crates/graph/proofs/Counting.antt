@@ -2,8 +2,8 @@
 use Rattle.std.proofs.Common.{◌≡◌, ℕ, zero, suc, ◌+◌, ◌<◌, ◌≤◌, Bool, true, false, cond, not, List, length, get_or, take, set, replicate, count_by, refl, ap, ◌∙◌, arith}
 use lib.Seq.{take-set-lt}
 use Rattle.std.proofs.lemmas.List.{length-take-le, get_or-take, take-replicate}
-use Rattle.std.proofs.ByRecursion.{All-from_get_or, sum_by_le}
-use Rattle.std.proofs.lemmas.List.Sums.{get_or-le-sum_by, sum_by-set, sum_by-cons}
+use Rattle.std.proofs.lemmas.List.Elements.{All-from_get_or}
+use Rattle.std.proofs.lemmas.List.Sums.{get_or-le-sum_by, sum_by-set, sum_by-cons, sum_by-le}
 use Rattle.graph.specs.Placing.{missing}
 
 -- what a node's mark adds to the number of nodes that are not marked
@@ -43,4 +43,4 @@ missing_none n marks few all =
     let within = length-take-le n marks few in
     let none = All-from_get_or (λ b. lacks b ≤ 0) (take n marks) false
     (λ v l. omega (arith, ap lacks (get_or-take n marks v false (omega arith) ∙ all v (omega arith)))) in
-    omega (arith, sum_by_le lacks 0 (take n marks) none)
+    omega (arith, sum_by-le lacks 0 (take n marks) none)

@@ -1,4 +1,5 @@
--- blocker_of standings v         the node that v stands behind, or v where it stands behind none
+-- behind v x                     the node that v stands behind where it stands as x says, or v where that is behind none
+-- blocker_of standings v         the node that v stands behind, or v where there is none
 -- back standings k v             the node k steps back from v, from each node to its blocker
 -- Closed standings               there are at most 256 nodes, and each that is not placed stands behind such a node
 -- OnRing standings v             v is not placed, and some steps back from it, at most as many as there are nodes, it stands again

@@ -109,7 +109,6 @@ impl Sorting {
 
     // Moves every blocker that stands at `at` up, to the lowest node from there on that blocks.
     fn move_up<G: Graph>(&mut self, graph: &G, at: usize)
-        requires within { at ≤ G.Graph.size graph.now }
         requires sized { length self.old.standings.items ≡ G.Graph.size graph.now }
         requires movable { (v : ℕ) → v < G.Graph.size graph.now
             → Movable (G.Graph.joins graph.now) (G.Graph.size graph.now) (marks self.old.standings.items) at v (slice_index_or self.old.standings.items v Placed) }
@@ -126,9 +125,7 @@ impl Sorting {
 
     // How a node that is not placed stands, where none below `from` blocks it.
     fn standing_from<G: Graph>(&self, graph: &G, from: usize, node: usize) -> Standing
-        requires within { from ≤ G.Graph.size graph.now }
-        requires sized { length self.now.standings.items ≡ G.Graph.size graph.now }
-        requires passed { Passed (G.Graph.joins graph.now) (marks self.now.standings.items) node from }
+        requires { Passed (G.Graph.joins graph.now) (marks self.now.standings.items) node from }
         ensures unplaced { is_placed result ≡ false }
         ensures stands { Stands (G.Graph.joins graph.now) (G.Graph.size graph.now) (marks self.now.standings.items) node result }
     {
@@ -141,7 +138,7 @@ impl Sorting {
     fn is_placed(&self, node: usize) -> bool
         ensures { result ≡ slice_index_or (marks self.now.standings.items) node false }
     {
-        self.standings.get(node) == Some(&Standing::Placed)
+        matches!(self.standings.get(node), Some(Standing::Placed))
     }
 
     // The lowest node that is ready.
@@ -190,7 +187,8 @@ impl Stuck {
         node
     }
 
-    // The ring that `start` is on, by a walk back until it stands again.
+    // The ring that `start` is on, by a walk back until it stands again. No list holds a ring, so its nodes are counted on
+    // the way.
     fn ring_of(&self, start: usize) -> Round
         requires { OnRing self.now.standings.items start }
         ensures { Turn self.now.standings.items result.lowest result.count }

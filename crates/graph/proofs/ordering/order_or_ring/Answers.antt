@@ -11,7 +11,7 @@ pub copy_from_slice-requires : goal.copy_from_slice-requires
 copy_from_slice-requires g c =
     let order : Ordered (g.G.Graph.joins c.args.graph.now) (g.G.Graph.size c.args.graph.now) c.new-sorting.result.order.items =
     begun_ordered _ _ c.new-sorting.result c.new-sorting.ensures.begun (sym c.in-None.ensures) in
-    length-take-le c.nodes-size.result c.args.list.now c.if-list-size.false ∙ c.nodes-size.ensures ∙ sym order.many
+    length-take-le _ _ (omega arith) ∙ c.nodes-size.ensures ∙ sym order.many
     ∙ ap (λ (ns : List ℕ). length ns) (sym c.deref.ensures.0)
 
 -- Every node is placed, and the order is copied.

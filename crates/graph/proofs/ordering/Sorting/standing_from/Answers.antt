@@ -9,7 +9,7 @@ pub returns-clause-stands : goal.returns-clause-stands
 returns-clause-stands g c =
     let joins : ℕ → ℕ → Bool = g.G.Graph.joins c.args.graph.now in
     let placed : List Bool = marks c.args.self.now.standings.items in
-    stands_found joins _ placed c.args.node c.args.from c.nodes.result c.find.result c.map_or.result c.nodes.ensures c.requires.passed
+    stands_found joins _ placed c.args.node c.args.from c.nodes.result c.find.result c.map_or.result c.nodes.ensures c.requires
     (first_from_Range _ _ _ c.find.result (λ b. (get_or placed b false ≡ false) × (joins b c.args.node ≡ true))
     (λ b. joins b c.args.node ≡ true → get_or placed b false ≡ true) c.find.ensures.ran (λ x q k. search rules) (λ x q k. (search rules, λ leads. search rules)))
     (search rules)
