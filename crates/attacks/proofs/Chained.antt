@@ -5,7 +5,8 @@ use lib.ListN.{length-replicate}
 use Rattle.std.specs.List.{slice_get}
 use Rattle.std.proofs.lemmas.List.{get_or-replicate, get_or_past}
 use Rattle.std.proofs.lemmas.List.Elements.{All-from_get_or}
-use Rattle.std.proofs.lemmas.Option.{slice_get_past}
+use Rattle.std.proofs.lemmas.Option.{slice_get_past, gets}
+use Rattle.std.proofs.lemmas.Grind.{common_steps}
 use Rattle.std.proofs.lemmas.Bool.{true≢false, and_parts, and_from, not-true, not_from_false, cases_lt, both_ways}
 use Rattle.graph.specs.Chains.{Chain, edge, onward}
 use Rattle.program.specs.declared.forms.Instruction.{Instruction}
@@ -45,8 +46,7 @@ load_line (Some l) load = load_instruction l.instruction load
 
 -- A line that is there stands below the number of lines.
 below_length : (test : Instruction → Bool) (ls : List Line) (n : ℕ) → has test ls n ≡ true → n < length ls
-below_length test ls n there =
-    ⊎_elim (λ below. below) (λ past. absurd (true≢false (sym there ∙ ap (passes test) (slice_get_past ls n past)))) (cases_lt n (length ls))
+below_length test ls n there = grind (arith, common_steps, gets)
 
 -- The loads that a search from a store reaches are those of its attack pairs.
 pub row_from_reached : (ls : List Line) (s : ℕ) (found marks : List Bool) → has is_store ls s ≡ true → ((n : ℕ) → get_or found n false ≡ true → Chain (goes_on ls) s n) → ((n : ℕ) → Chain (goes_on ls) s n → get_or found n false ≡ true) → (n : ℕ) → length ls ≤ n → length marks ≡ n → ((l : ℕ) → l < n → get_or marks l false ≡ (get_or found l false && has is_load ls l)) → RightRow ls s marks
@@ -66,14 +66,10 @@ row_from_reached ls s found marks store sound complete n few long marked = recor
 
 -- A row with no mark is right for a line that is no store.
 pub row_of_none : (ls : List Line) (s : ℕ) (marks : List Bool) → has is_store ls s ≡ false → ((l : ℕ) → get_or marks l false ≡ false) → RightRow ls s marks
-row_of_none ls s marks none blank = record {
-  only = λ l marked. absurd (both_ways (get_or marks l false) (blank l) marked);
-  all = λ l attack. absurd (both_ways (has is_store ls s) none attack.store);
-}
+row_of_none ls s marks none blank = record { only = λ l marked. grind arith; all = λ l attack. grind arith }
 
 pub blank_row : (n l : ℕ) → get_or (replicate n false) l false ≡ false
-blank_row n l =
-    ⊎_elim (λ within. get_or-replicate n l false false within) (λ past. get_or_past (replicate n false) l false (omega (arith, length-replicate n false))) (cases_lt l n)
+blank_row n l = grind (arith, common_steps, get_or-replicate, get_or_past, length-replicate)
 
 -- A table with a right row for each line is right.
 pub table_from_rows : (ls : List Line) (rows : List (List Bool)) (n : ℕ) → length ls ≤ n → length rows ≡ n → ((s : ℕ) → s < n → Long (get_or rows s []) × RightRow ls s (get_or rows s [])) → RightTable ls rows

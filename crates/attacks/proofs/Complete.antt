@@ -1,9 +1,10 @@
 -- A table that marks exactly the attack pairs lists exactly them, in order, and so the call answers.
-use Rattle.std.proofs.Common.{◌≡◌, ℕ, zero, suc, ◌+◌, ◌-◌, ◌*◌, ◌/◌, ◌%◌, ◌<◌, Bool, true, false, List, [], ◌∷◌, ◌++◌, length, get_or, sym, refl, ap, ◌∙◌, subst, inl, inr, ⊎_elim, add-zero, zero-add, arith}
+use Rattle.std.proofs.Common.{◌≡◌, ℕ, zero, suc, ◌+◌, ◌-◌, ◌*◌, ◌/◌, ◌%◌, ◌<◌, Bool, true, false, List, [], ◌∷◌, ◌++◌, length, get_or, sym, refl, ap, ◌∙◌, subst, add-zero, zero-add, arith}
 use Rattle.std.specs.List.{All, Contains, flat_map}
 use Rattle.std.proofs.lemmas.List.{get_or_append_left, get_or-append_right, get_or_past}
 use Rattle.std.proofs.lemmas.List.Elements.{All-nil, All-cons, All-head, All-tail, Contains-append_right}
-use Rattle.std.proofs.lemmas.Bool.{true≢false, cases_lt, both_ways}
+use Rattle.std.proofs.lemmas.Bool.{true≢false}
+use Rattle.std.proofs.lemmas.Grind.{common_steps}
 use Rattle.program.specs.declared.lines.Line.{Line}
 use Rattle.attacks.specs.declared.pair.Pair.{Pair}
 use Rattle.attacks.specs.Attacks.{Attack, AttackPairs, Before, Ascending}
@@ -27,7 +28,7 @@ pairs_all P i (false ∷ marks) right = pairs_all P (i + 1) marks (λ k m. subst
 
 -- The pair of a place comes before that of each later place.
 before_later : (i k : ℕ) → i < k → Before (place_pair i) (place_pair k)
-before_later i k later = ⊎_elim (λ row. inl row) (λ same. inr (omega arith, omega arith)) (cases_lt (i / 128) (k / 128))
+before_later i k later = grind arith
 
 pairs_ascend : (i : ℕ) (marks : List Bool) → Ascending (marked_pairs i marks)
 pairs_ascend i [] = tt
@@ -60,19 +61,11 @@ flat_at (row ∷ rows) long (suc s) l within =
 
 -- A place that is marked stands in a row of that length.
 in_row : (rows : List (List Bool)) → All Long rows → (s l : ℕ) → Marked (get_or rows s []) l → l < 128
-in_row rows long s l marked =
-    ⊎_elim (λ below. below)
-    (λ past. absurd (both_ways (get_or (get_or rows s []) l false)
-    (⊎_elim (λ there. get_or_past (get_or rows s []) l false (omega (arith, long s [] there))) (λ gone. ap (λ row. get_or row l false) (get_or_past rows s [] gone)) (cases_lt s (length rows)))
-    marked))
-    (cases_lt l 128)
+in_row rows long s l marked = grind (arith, common_steps, get_or_past, long s [])
 
 -- The pair of a place of a row.
 pair_at : (s l : ℕ) → l < 128 → place_pair (0 + (128 * s + l)) ≡ pair s l
-pair_at s l within =
-    let store : (0 + (128 * s + l)) / 128 ≡ s = omega arith in
-    let load : (0 + (128 * s + l)) % 128 ≡ l = omega arith in
-    ap (λ k. pair k ((0 + (128 * s + l)) % 128)) store ∙ ap (pair s) load
+pair_at s l within = grind arith
 
 -- A right table lists exactly the attack pairs, in order.
 pub table_attacks : (ls : List Line) (rows : List (List Bool)) → RightTable ls rows → AttackPairs ls (table_pairs rows)

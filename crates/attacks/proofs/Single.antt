@@ -7,11 +7,10 @@ use Rattle.attacks.specs.Attacks.{Ascending, Attack, Before, OneList}
 
 -- No pair comes before itself, and of two pairs only one comes before the other.
 not_itself : (p : Pair) → Before p p → ⊥
-not_itself p before = ⊎_elim (λ less. omega (arith, less)) (λ same. omega (arith, same.1)) before
+not_itself p before = grind arith
 
 not_both : (p q : Pair) → Before p q → Before q p → ⊥
-not_both p q one other =
-    ⊎_elim (λ a. ⊎_elim (λ b. omega (arith, a, b)) (λ b. omega (arith, a, b.0)) other) (λ a. ⊎_elim (λ b. omega (arith, a.0, b)) (λ b. omega (arith, a.1, b.1)) other) one
+not_both p q one other = grind arith
 
 -- What a list has is its first or stands behind it.
 has_cases : (p : Pair) (ps : List Pair) (q : Pair) → Contains (p ∷ ps) q → (p ≡ q) ⊎ Contains ps q

@@ -1,6 +1,7 @@
 -- A table of marks, a row for each store and in it a place for each load. Only private calls speak of it.
 -- RightRow ls s marks     the row marks exactly the loads that make an attack pair with the store s
--- RightTable ls rows      so does each row, for the store of its number
+-- Long marks              the row has a place for each line that a program may have
+-- RightTable ls rows      each row is long and right for the store of its number
 -- place_pair k            the place k of a whole table, counted row by row: its row is a store, its place in the row a load
 -- marked_pairs i marks    the pairs of the marked places, the places counted from i
 -- table_pairs rows        so for a whole table, row by row
@@ -14,7 +15,6 @@ pub record RightRow (ls : List Line) (s : ℕ) (marks : List Bool) : Type 0 wher
   pub only : (l : ℕ) → slice_index_or marks l false ≡ true → Attack ls s l
   pub all : (l : ℕ) → Attack ls s l → slice_index_or marks l false ≡ true
 
--- a row has a place for each line that a program may have
 abbrev pub Long : List Bool → Type 0
 Long marks = length marks ≡ 128
 
