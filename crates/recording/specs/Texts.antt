@@ -12,7 +12,7 @@ use Rattle.std.specs.Prelude.{◌≡◌, ℕ, ◌<◌, ◌≤◌, ◌⊎◌, Lis
 use Rattle.std.specs.List.{flat_map}
 use Rattle.refusal.specs.Texts.{refusal_text}
 use Rattle.replay.specs.Names.{name_of}
-use Rattle.replay.specs.Texts.{name_text, word_text}
+use Rattle.replay.specs.Texts.{name_text, verdict_text as words_of}
 use Rattle.replay.specs.declared.names.Name.{Name}
 use Rattle.replay.specs.declared.verdicts.Verdict.{Verdict}
 use Rattle.recording.specs.Meaning.{reading}
@@ -27,8 +27,9 @@ use Rattle.recording.specs.declared.printing.Unprinted.TheVariants.{PageTooShort
 abbrev pub name_lines : List Name → List ℕ
 name_lines names = flat_map (λ a. name_text a ++ codes "\n") names
 
+-- the verdict's own line
 abbrev pub first_line : Verdict → List ℕ
-first_line v = word_text v.word ++ (codes " " ++ (decimal v.entries ++ (codes " " ++ (decimal v.delayed ++ codes "\n"))))
+first_line v = words_of v ++ codes "\n"
 
 abbrev pub verdict_text : Verdict → List Name → List ℕ
 verdict_text v names = first_line v ++ name_lines names

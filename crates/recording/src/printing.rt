@@ -94,12 +94,7 @@ fn text_of(heap: Global, recording: &[u8]) -> Result<String, Unprinted>
 fn verdict_text(heap: Global, verdict: Verdict, names: &[Name]) -> Result<String, AllocError>
     ensures { IfOk result (λ text. string_bytes text ≡ verdict_text verdict names.now) }
 {
-    let Verdict {
-        word,
-        entries,
-        delayed,
-    } = verdict;
-    let mut text = format!(in heap; "{word} {entries} {delayed}\n")?;
+    let mut text = format!(in heap; "{verdict}\n")?;
     for name in names {
         writeln!(text, "{name}")?;
     }
