@@ -125,7 +125,8 @@ impl Sorting {
 
     // How a node that is not placed stands, where none below `from` blocks it.
     fn standing_from<G: Graph>(&self, graph: &G, from: usize, node: usize) -> Standing
-        requires { Passed (G.Graph.joins graph.now) (marks self.now.standings.items) node from }
+        requires sized { length self.now.standings.items ≡ G.Graph.size graph.now }
+        requires passed { Passed (G.Graph.joins graph.now) (marks self.now.standings.items) node from }
         ensures unplaced { is_placed result ≡ false }
         ensures stands { Stands (G.Graph.joins graph.now) (G.Graph.size graph.now) (marks self.now.standings.items) node result }
     {
@@ -136,9 +137,10 @@ impl Sorting {
 
     // Whether the node is placed.
     fn is_placed(&self, node: usize) -> bool
+        requires { node < length self.now.standings.items }
         ensures { result ≡ slice_index_or (marks self.now.standings.items) node false }
     {
-        matches!(self.standings.get(node), Some(Standing::Placed))
+        self.standings[node] == Standing::Placed
     }
 
     // The lowest node that is ready.
