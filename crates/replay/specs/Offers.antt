@@ -2,22 +2,18 @@
 -- Offered        the answer to a move, and what the replay holds after it
 -- Acted          the action of an instruction, or why it is refused, and what the replay holds then. Only private calls speak of it
 -- ActedAlone     the same for the forms that leave the buffer alone
--- Forwarded      the source of a value that the buffer tells
-use Rattle.std.specs.Prelude.{◌≡◌, ℕ, List, Some, None, Ok, Err, Option, Result}
+use Rattle.std.specs.Prelude.{◌≡◌, ℕ, List, Some, None, Ok, Err, Result}
 use Rattle.refusal.specs.declared.Refusal.{Refusal}
-use Rattle.refusal.specs.declared.Refusal.TheVariants.{StoreNotWaiting}
 use Rattle.program.specs.declared.forms.Instruction.{Instruction}
 use Rattle.program.specs.declared.lines.Line.{Line}
 use Rattle.buffers.specs.Laws.{Rules}
-use Rattle.ledger.specs.Actions.{Action as Action', from, name}
+use Rattle.ledger.specs.Actions.{Action as Action'}
 use Rattle.ledger.specs.Moves.{act, asked}
 use Rattle.ledger.specs.declared.moves.Move.{Move}
 use Rattle.present.specs.Calls.{after_offer_held, form_tested_held, found_in, outcome_held, put_in}
-use Rattle.present.specs.Data.{Held, Present, youngest_left}
-use Rattle.replay.specs.Names.{source_of}
+use Rattle.present.specs.Data.{Held}
 use Rattle.replay.specs.Views.{noted_of}
 use Rattle.replay.specs.declared.actions.Action.{Action}
-use Rattle.replay.specs.declared.names.Name.{Name}
 
 pub record Offered (rules : Rules) (ls : List Line) (before : Held) (m : Move) (answer : Result ℕ Refusal) (after : Held) : Type 0 where
   pub value : answer ≡ outcome_held rules ls before m
@@ -41,7 +37,3 @@ held_after h t n i (Err r) = h
 pub record Acted (before : Held) (t n : ℕ) (i : Instruction) (answer : Result Action Refusal) (after : Held) : Type 0 where
   pub alone : ActedAlone before t n i answer
   pub held : after ≡ held_after before t n i answer
-
-abbrev pub Forwarded : Present → ℕ → ℕ → Result (Option Name) Refusal → Type 0
-Forwarded own t c (Ok s) = (p : ℕ) × (youngest_left 0 c (own.noted t) ≡ Some p) × (source_of s ≡ from (name t p))
-Forwarded own t c (Err r) = (youngest_left 0 c (own.noted t) ≡ None) × (r ≡ StoreNotWaiting)
