@@ -1,12 +1,12 @@
 -- The worked runs, computed.
-use Rattle.std.proofs.Common.{◌≡◌, ℕ, ◌<◌, true, false, List, [], ◌∷◌, sym, refl, ◌∙◌, subst, inl, inr, arith}
+use Rattle.std.proofs.Common.{◌≡◌, ℕ, ◌<◌, true, List, [], ◌∷◌, sym, refl, subst, inl, inr, arith}
 use Rattle.std.specs.List.{All}
 use Rattle.std.proofs.lemmas.List.Elements.{All-nil, All-cons}
 use Rattle.std.proofs.lemmas.Bool.{true≢false}
 use Rattle.program.specs.declared.lines.Line.{Line}
 use Rattle.buffers.specs.Kinds.{direct, per_cell, queue}
 use Rattle.buffers.specs.Lists.{nothing_waits}
-use Rattle.ledger.specs.Actions.{Name, name, same}
+use Rattle.ledger.specs.Actions.{Name, name}
 use Rattle.ledger.specs.Edges.{Trace, is_action}
 use Rattle.ledger.specs.Ledgers.{start}
 use Rattle.ledger.specs.Mistakes.{Mistakes}
@@ -21,7 +21,6 @@ use Rattle.ledger.specs.declared.moves.Move.TheVariants.{Run, Drain}
 use Rattle.ledger.proofs.Checked.{checked_order, lacks_member}
 use Rattle.ledger.proofs.Draining.{sound_moves}
 use Rattle.ledger.proofs.Forward.{direct_lawful, run_gives_no_ring}
-use Rattle.ledger.proofs.Growing.{same_self}
 use Rattle.ledger.proofs.Sound.{Sound, sound_start}
 use Rattle.ledger.proofs.Timed.{nothing_waits_from}
 
