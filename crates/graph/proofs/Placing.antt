@@ -1,7 +1,7 @@
 -- How the order grows by one node, why the node that is placed is the right one, and what stands when none is ready.
 use Rattle.std.proofs.Common.{◌≡◌, ℕ, zero, suc, ◌<◌, ◌≤◌, Bool, true, false, not, List, [], ◌∷◌, ◌++◌, Some, None, length, get_or, take, drop, set, replicate, sym, refl, ap, ◌∙◌, subst, inl, inr, arith, below_more}
-use Rattle.std.specs.List.{ContainsAt as Has, position, position_or_len}
-use Rattle.std.proofs.ByRecursion.{has_append_left, has_push, has_push_cases}
+use Rattle.std.specs.List.{Contains, position, position_or_len}
+use Rattle.std.proofs.lemmas.List.Elements.{Contains-append_left, Contains-push, Contains-push_cases}
 use Rattle.std.proofs.lemmas.List.{length-set, length-append, length-map, length_push, get_or-set_same, get_or-set_other, get_or_append_left, get_or_push, get_or_past, length-replicate, take-append-le, take_at, drop_at, map-set}
 use Rattle.std.proofs.lemmas.List.Quantifiers.{position-Some}
 use Rattle.std.proofs.lemmas.List.Sums.{fails_before_first}
@@ -102,14 +102,14 @@ put_begun joins size s t v begun next longer same blocked = record {
     missing_mark size old v (omega (arith, sized)) next.could.node (could_unmarked joins size s v begun next.could),
   );
   listed = λ w m.
-      subst (λ (ns : List ℕ). Has ns w) (sym longer)
+      subst (λ (ns : List ℕ). Contains ns w) (sym longer)
       (elim (cases_eq w v) [
-        | inl e ↦ subst (Has (before ++ v ∷ [])) (sym e) (has_push before v)
-        | inr ne ↦ has_append_left before (v ∷ []) w (begun.listed w (sym (get_or-set_other old v w true false ne) ∙ sym (mark w) ∙ m))
+        | inl e ↦ subst (Contains (before ++ v ∷ [])) (sym e) (Contains-push before v)
+        | inr ne ↦ Contains-append_left before (v ∷ []) w (begun.listed w (sym (get_or-set_other old v w true false ne) ∙ sym (mark w) ∙ m))
       ]);
   marked = λ w has.
       mark w
-      ∙ (elim (has_push_cases before v w (subst (λ (ns : List ℕ). Has ns w) longer has)) [
+      ∙ (elim (Contains-push_cases before v w (subst (λ (ns : List ℕ). Contains ns w) longer has)) [
         | inl there ↦ marked_keeps old v w inside (begun.marked w there)
         | inr e ↦ ap (λ (u : ℕ). get_or (set old v true) u false) (sym e) ∙ get_or-set_same old v true false inside
       ]);
@@ -160,7 +160,7 @@ nothing_begun joins size s few none unmarked blocked = record {
   few = few;
   counted = omega (arith, ap (λ (ns : List ℕ). length ns) none, ap (missing size) unmarked, missing_all size size (omega arith));
   listed = λ v m. absurd (both_ways (get_or (replicate size false) v false) (all_false size v) (ap (λ (ms : List Bool). get_or ms v false) (sym unmarked) ∙ m));
-  marked = λ v has. absurd (omega (arith, (subst (λ (ns : List ℕ). Has ns v) none has).1));
+  marked = λ v has. absurd (omega (arith, (subst (λ (ns : List ℕ). Contains ns v) none has).1));
   nexts = λ k l. absurd (omega (arith, ap (λ (ns : List ℕ). length ns) none));
   blocked = blocked;
 }

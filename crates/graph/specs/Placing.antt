@@ -10,7 +10,7 @@
 -- Unplaced standings v                  v is a node that is not placed
 -- NoneReady standings                   no node is ready
 use Rattle.std.specs.Prelude.{◌≡◌, ℕ, ◌+◌, ◌<◌, ◌≤◌, Bool, true, false, not, List, length, take, map, count_by, ◌≢◌, slice_index, slice_index_or}
-use Rattle.std.specs.List.{ContainsAt as Has}
+use Rattle.std.specs.List.{Contains}
 use Rattle.graph.specs.declared.ordering.Sorting.{Sorting}
 use Rattle.graph.specs.declared.ordering.Standing.{Standing}
 use Rattle.graph.specs.declared.ordering.Standing.TheVariants.{Placed, Ready, Behind}
@@ -57,8 +57,8 @@ pub record Begun (joins : ℕ → ℕ → Bool) (size : ℕ) (s : Sorting) : Typ
   pub sized : length s.standings.items ≡ size
   pub few : size ≤ 256
   pub counted : length s.order.items + missing size (marks s.standings.items) ≡ size
-  pub listed : (v : ℕ) → slice_index_or (marks s.standings.items) v false ≡ true → Has s.order.items v
-  pub marked : (v : ℕ) → Has s.order.items v → slice_index_or (marks s.standings.items) v false ≡ true
+  pub listed : (v : ℕ) → slice_index_or (marks s.standings.items) v false ≡ true → Contains s.order.items v
+  pub marked : (v : ℕ) → Contains s.order.items v → slice_index_or (marks s.standings.items) v false ≡ true
   pub nexts : (k : ℕ) → k < length s.order.items → Next joins size (take k s.order.items) (slice_index s.order.items k)
   pub blocked : Blocked joins size s.standings.items
 

@@ -7,16 +7,16 @@
 -- Front P n old new                  P is true of the first n numbers of new, and the later ones are those of old
 -- Answered joins size old new r      what the answer r says of a lent list that was old and is new
 use Rattle.std.specs.Prelude.{◌≡◌, ℕ, ◌+◌, ◌-◌, ◌<◌, ◌≤◌, Bool, true, List, length, take, drop, Some, None, Option, ◌≢◌, slice_index}
-use Rattle.std.specs.List.{ContainsAt as Has}
+use Rattle.std.specs.List.{Contains}
 use Rattle.graph.specs.declared.ordering.Written.{Written}
 use Rattle.graph.specs.declared.ordering.Written.TheVariants.{Order, Ring}
 
 abbrev pub Ready : (ℕ → ℕ → Bool) → List ℕ → ℕ → Type 0
-Ready joins placed v = (u : ℕ) → joins u v ≡ true → Has placed u
+Ready joins placed v = (u : ℕ) → joins u v ≡ true → Contains placed u
 
 pub record Could (joins : ℕ → ℕ → Bool) (size : ℕ) (placed : List ℕ) (v : ℕ) : Type 0 where
   pub node : v < size
-  pub new : Has placed v → ⊥
+  pub new : Contains placed v → ⊥
   pub ready : Ready joins placed v
 
 pub record Next (joins : ℕ → ℕ → Bool) (size : ℕ) (placed : List ℕ) (v : ℕ) : Type 0 where
@@ -25,7 +25,7 @@ pub record Next (joins : ℕ → ℕ → Bool) (size : ℕ) (placed : List ℕ) 
 
 pub record Ordered (joins : ℕ → ℕ → Bool) (size : ℕ) (ns : List ℕ) : Type 0 where
   pub many : length ns ≡ size
-  pub all : (v : ℕ) → v < size → Has ns v
+  pub all : (v : ℕ) → v < size → Contains ns v
   pub next : (k : ℕ) → k < size → Next joins size (take k ns) (slice_index ns k)
 
 pub record Ringed (joins : ℕ → ℕ → Bool) (ns : List ℕ) : Type 0 where

@@ -1,14 +1,15 @@
 -- An edge, by its four sorts; and that it is the same edge in the same trace.
-use Rattle.std.proofs.Common.{◌≡◌, ℕ, ◌+◌, true, false, ◌&&◌, eqb, ◌⊎◌, List, [], ◌∷◌, ◌++◌, length, Some, sym, refl, ap, ◌∙◌, subst, inl, inr, ⊎_elim, arith}
-use Rattle.std.specs.List.{AllByRecursion}
+use Rattle.std.proofs.Common.{◌≡◌, ℕ, ◌+◌, true, false, ◌&&◌, eqb, ◌⊎◌, List, [], ◌∷◌, ◌++◌, length, Some, sym, refl, ap, ◌∙◌, subst, inl, inr, ⊎_elim}
+use Rattle.std.specs.List.{All}
+use Rattle.std.proofs.lemmas.List.Elements.{All-head, All-tail}
 use Rattle.std.proofs.lemmas.Bool.{and_parts, eqb-true, ltb-true, or_cases, or_left, or_right, true≢false}
 use Rattle.ledger.specs.Actions.{Access, Name, Source, from, initial, loads, none, same, stores}
 use Rattle.ledger.specs.Edges.{Trace, after_source, edge, first_in, from_reads, is_action, next_in, program_order, reads_from, store_order}
 use Rattle.ledger.specs.Ledgers.{action_at}
 use Rattle.ledger.specs.Moves.{last_of}
-use Rattle.ledger.specs.Orders.{Lacks}
 use Rattle.ledger.proofs.Growing.{Exists, same_true}
 use Rattle.ledger.proofs.Sound.{NoTwice}
+use Rattle.ledger.proofs.Waits.{last_all}
 
 -- the four sorts
 pub data Sort (x : Trace) (a b : Name) : Type 0 where
@@ -52,20 +53,20 @@ edge_parts x a b joined =
     by_overwriting (loads c source) is so = overwritten_by c source is so
 
 -- Who stands next after another is in the list, and so is the other.
-pub next_in_both : (P : Name → Type 0) (names : List Name) (a b : Name) → next_in names a b ≡ true → AllByRecursion P names → P a × P b
+pub next_in_both : (P : Name → Type 0) (names : List Name) (a b : Name) → next_in names a b ≡ true → All P names → P a × P b
 next_in_both P [] a b so all = absurd (true≢false (sym so))
 next_in_both P (x ∷ []) a b so all = absurd (true≢false (sym so))
 next_in_both P (x ∷ y ∷ names) a b so all =
     ⊎_elim
-    (λ here. let parts = and_parts (same x a) (same y b) here in (subst P (same_true x a parts.0) all.0, subst P (same_true y b parts.1) all.1.0))
-    (λ later. next_in_both P (y ∷ names) a b later all.1)
+    (λ here. let parts = and_parts (same x a) (same y b) here in (subst P (same_true x a parts.0) (All-head P x (y ∷ names) all), subst P (same_true y b parts.1) (All-head P y names (All-tail P x (y ∷ names) all))))
+    (λ later. next_in_both P (y ∷ names) a b later (All-tail P x (y ∷ names) all))
     (or_cases (same x a && same y b) (next_in (y ∷ names) a b) so)
 
-pub first_in_one : (P : Name → Type 0) (names : List Name) (b : Name) → first_in names b ≡ true → AllByRecursion P names → P b
+pub first_in_one : (P : Name → Type 0) (names : List Name) (b : Name) → first_in names b ≡ true → All P names → P b
 first_in_one P [] b so all = absurd (true≢false (sym so))
-first_in_one P (x ∷ names) b so all = subst P (same_true x b so) all.0
+first_in_one P (x ∷ names) b so all = subst P (same_true x b so) (All-head P x names all)
 
-pub after_source_one : (P : Name → Type 0) (names : List Name) (source : Source) (b : Name) → after_source names source b ≡ true → AllByRecursion P names → P b
+pub after_source_one : (P : Name → Type 0) (names : List Name) (source : Source) (b : Name) → after_source names source b ≡ true → All P names → P b
 after_source_one P names initial b so all = first_in_one P names b so all
 after_source_one P names (from s) b so all = (next_in_both P names s b so all).1
 
@@ -75,14 +76,9 @@ none_after_last [] a b once last so = true≢false (sym so)
 none_after_last (x ∷ []) a b once last so = true≢false (sym so)
 none_after_last (x ∷ y ∷ names) a b once last so =
     ⊎_elim
-    (λ here. let x_is = same_true x a (and_parts (same x a) (same y b) here).0 in last_lacks (y ∷ names) x once.0 (last ∙ ap Some (sym x_is)))
+    (λ here. let x_is = same_true x a (and_parts (same x a) (same y b) here).0 in last_all (λ b. b ≡ x → ⊥) (y ∷ names) x (last ∙ ap Some (sym x_is)) once.0 refl)
     (λ later. none_after_last (y ∷ names) a b once.1 last later)
     (or_cases (same x a && same y b) (next_in (y ∷ names) a b) so)
-  where
-    last_lacks : (ns : List Name) (z : Name) → Lacks ns z → last_of ns ≡ Some z → ⊥
-    last_lacks [] z lacks is = let w : ◌≡◌ {A = ℕ} 0 1 = cc in omega (arith, w)
-    last_lacks (u ∷ []) z lacks is = let u_is : u ≡ z = cc in lacks.0 u_is
-    last_lacks (u ∷ v ∷ ns) z lacks is = last_lacks (v ∷ ns) z lacks.1 is
 
 -- In a list with one more name, the new name stands next after the old last, and nothing else is new.
 pub next_in_push : (names : List Name) (x a b : Name) → next_in (names ++ x ∷ []) a b ≡ true → (next_in names a b ≡ true) ⊎ ((last_of names ≡ Some a) × (b ≡ x))

@@ -1,7 +1,7 @@
 -- Orders that are checked by computing.
 use Rattle.std.proofs.Common.{◌≡◌, ℕ, suc, ◌<◌, Bool, true, false, not, ◌&&◌, ◌||◌, List, [], ◌∷◌, ◌++◌, length, sym, subst, ⊎_elim, arith}
-use Rattle.std.specs.List.{ContainsAt as Has}
-use Rattle.std.proofs.ByRecursion.{has_append_right}
+use Rattle.std.specs.List.{Contains}
+use Rattle.std.proofs.lemmas.List.Elements.{All-nil, All-cons, Contains-append_right}
 use Rattle.std.proofs.lemmas.Bool.{and_parts, both_ways, not-true, or_cases, or_parts, true≢false}
 use Rattle.program.specs.declared.lines.Line.{Line}
 use Rattle.ledger.specs.Actions.{Name, same}
@@ -14,20 +14,20 @@ use Rattle.ledger.proofs.Growing.{same_self, same_true}
 use Rattle.ledger.proofs.Sorting.{In}
 use Rattle.ledger.proofs.Sound.{Sound}
 
-abbrev member : Name → List Name → Bool
+abbrev pub member : Name → List Name → Bool
 member a [] = false
 member a (b ∷ names) = same b a || member a names
 
-has_member : (a : Name) (names : List Name) → member a names ≡ true → Has names a
+has_member : (a : Name) (names : List Name) → member a names ≡ true → Contains names a
 has_member a [] so = absurd (true≢false (sym so))
-has_member a (b ∷ names) so = ⊎_elim (λ here. (0, first (length names), λ d. same_true b a here)) (λ later. has_append_right (b ∷ []) names a (has_member a names later)) (or_cases (same b a) (member a names) so)
+has_member a (b ∷ names) so = ⊎_elim (λ here. (0, first (length names), same_true b a here)) (λ later. Contains-append_right (b ∷ []) names a (has_member a names later)) (or_cases (same b a) (member a names) so)
   where
     first : (n : ℕ) → 0 < suc n
     first n = omega arith
 
-lacks_member : (a : Name) (names : List Name) → member a names ≡ false → Lacks names a
-lacks_member a [] so = tt
-lacks_member a (b ∷ names) so = let both = or_parts (same b a) (member a names) so in ((λ e. both_ways (same b a) both.0 (same_self b a e)), lacks_member a names both.1)
+pub lacks_member : (a : Name) (names : List Name) → member a names ≡ false → Lacks names a
+lacks_member a [] so = All-nil (λ b. b ≡ a → ⊥)
+lacks_member a (b ∷ names) so = let both = or_parts (same b a) (member a names) so in All-cons (λ d. d ≡ a → ⊥) b names (λ e. both_ways (same b a) both.0 (same_self b a e)) (lacks_member a names both.1)
 
 -- every one of the names passes the test
 abbrev every : (Name → Bool) → List Name → Bool

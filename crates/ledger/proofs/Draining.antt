@@ -1,7 +1,7 @@
 -- A drain keeps what holds of every ledger; and so does every accepted move, over every kind that keeps the laws.
-use Rattle.std.proofs.Common.{◌≡◌, ℕ, zero, suc, ◌<◌, true, ◌⊎◌, List, [], ◌∷◌, ◌++◌, map, Some, sym, refl, ap, ◌∙◌, subst, inl, inr, ⊎_elim, arith}
-use Rattle.std.specs.List.{ContainsAt as Has, AllByRecursion}
-use Rattle.std.proofs.ByRecursion.{All-push, All-weaker, has_append_left, has_push}
+use Rattle.std.proofs.Common.{◌≡◌, ℕ, zero, suc, ◌<◌, true, ◌⊎◌, List, [], ◌∷◌, ◌++◌, map, get_or, Some, sym, refl, ap, ◌∙◌, subst, inl, inr, ⊎_elim, arith}
+use Rattle.std.specs.List.{Contains, All}
+use Rattle.std.proofs.lemmas.List.Elements.{All-nil, All-head, All-tail, All-push, All-weaker, Contains-append_left, Contains-push}
 use Rattle.std.proofs.lemmas.Bool.{cases_eq}
 use Rattle.program.specs.declared.lines.Line.{Line}
 use Rattle.buffers.specs.Laws.{Lawful, Rules}
@@ -21,8 +21,8 @@ use Rattle.ledger.proofs.Waits.{AtPosition, all_less, at_position_less, last_pus
 
 -- A name that the list lacks may be added.
 no_twice_push : (names : List Name) (a : Name) → NoTwice names → Lacks names a → NoTwice (names ++ a ∷ [])
-no_twice_push [] a once lacks = (tt, tt)
-no_twice_push (b ∷ names) a once lacks = (All-push (λ d. d ≡ b → ⊥) names a once.0 (λ is. lacks.0 (sym is)), no_twice_push names a once.1 lacks.1)
+no_twice_push [] a once lacks = (All-nil (λ d. d ≡ a → ⊥), tt)
+no_twice_push (b ∷ names) a once lacks = (All-push (λ d. d ≡ b → ⊥) names a once.0 (λ is. All-head (λ d. d ≡ a → ⊥) b names lacks (sym is)), no_twice_push names a once.1 (All-tail (λ d. d ≡ a → ⊥) b names lacks))
 
 module _ (ls : List Line) (l : Ledger) (sound : Sound ls l) (t c : ℕ) (e : Entry) (found : oldest c (l.waiting t) ≡ Some e) where
   abbrev next : Ledger
@@ -53,9 +53,9 @@ module _ (ls : List Line) (l : Ledger) (sound : Sound ls l) (t c : ℕ) (e : Ent
       (λ other. update_other l.cells c e.store.value d other ∙ sound.cells d ∙ ap (λ names. held l.actions (last_of names)) (sym (update_other l.drained c (l.drained c ++ x ∷ []) d other)))
       (cases_eq d c)
 
-  drained_next : (d : ℕ) → AllByRecursion (StoreTo l.actions d) (next.drained d)
+  drained_next : (d : ℕ) → All (StoreTo l.actions d) (next.drained d)
   drained_next =
-      update_all l.drained c (l.drained c ++ x ∷ []) (λ d. AllByRecursion (StoreTo l.actions d))
+      update_all l.drained c (l.drained c ++ x ∷ []) (λ d. All (StoreTo l.actions d))
       (All-push (StoreTo l.actions c) (l.drained c) x (sound.drained c) (record { exists = x_stored.exists; access = x_stored.access; value = refl }))
       (λ d other. sound.drained d)
 
@@ -66,37 +66,32 @@ module _ (ls : List Line) (l : Ledger) (sound : Sound ls l) (t c : ℕ) (e : Ent
       (λ before. All-push (λ b. b ≡ name u f.position → ⊥) (l.drained c) x before (λ is. other (sym is)))
       (λ d apart before. before) f.store.cell lacks
 
-  all_both : {X : Type 0} (P Q : X → Type 0) (xs : List X) → AllByRecursion P xs → AllByRecursion Q xs → AllByRecursion (λ y. P y × Q y) xs
-  all_both P Q [] p q = tt
-  all_both P Q (y ∷ ys) p q = ((p.0, q.0), all_both P Q ys p.1 q.1)
-
-  apart_next : (u : ℕ) → AllByRecursion (λ f. Lacks (next.drained f.store.cell) (name u f.position)) (next.waiting u)
+  apart_next : (u : ℕ) → All (λ f. Lacks (next.drained f.store.cell) (name u f.position)) (next.waiting u)
   apart_next =
-      update_all l.waiting t (less_oldest c (l.waiting t)) (λ u. AllByRecursion (λ f. Lacks (next.drained f.store.cell) (name u f.position)))
-      (All-weaker (λ f. (f.position ≡ e.position → ⊥) × Lacks (l.drained f.store.cell) (name t f.position)) (λ f. Lacks (next.drained f.store.cell) (name t f.position))
-      (λ f both. lacks_next t f (λ is. both.0 (ap (λ a. a.position) is)) both.1) (less_oldest c (l.waiting t))
-      (all_both (λ f. f.position ≡ e.position → ⊥) (λ f. Lacks (l.drained f.store.cell) (name t f.position)) (less_oldest c (l.waiting t))
-      (oldest_apart c (l.waiting t) e found (sound.rising t)) (all_less (λ f. Lacks (l.drained f.store.cell) (name t f.position)) c (l.waiting t) (sound.apart t))))
+      update_all l.waiting t (less_oldest c (l.waiting t)) (λ u. All (λ f. Lacks (next.drained f.store.cell) (name u f.position)))
+      (λ k d within. lacks_next t (get_or (less_oldest c (l.waiting t)) k d)
+      (λ is. oldest_apart c (l.waiting t) e found (sound.rising t) k d within (ap (λ a. a.position) is))
+      (all_less (λ f. Lacks (l.drained f.store.cell) (name t f.position)) c (l.waiting t) (sound.apart t) k d within))
       (λ u other. All-weaker (λ f. Lacks (l.drained f.store.cell) (name u f.position)) (λ f. Lacks (next.drained f.store.cell) (name u f.position)) (λ f. lacks_next u f (λ is. other (ap (λ a. a.thread) is))) (l.waiting u) (sound.apart u))
 
-  has_next : (d : ℕ) (a : Name) → Has (l.drained d) a → Has (next.drained d) a
+  has_next : (d : ℕ) (a : Name) → Contains (l.drained d) a → Contains (next.drained d) a
   has_next d a =
-      update_all l.drained c (l.drained c ++ x ∷ []) (λ k names. Has (l.drained k) a → Has names a)
-      (has_append_left (l.drained c) (x ∷ []) a) (λ k other there. there) d
+      update_all l.drained c (l.drained c ++ x ∷ []) (λ k names. Contains (l.drained k) a → Contains names a)
+      (Contains-append_left (l.drained c) (x ∷ []) a) (λ k other there. there) d
 
   -- The store that was taken is in its cell's list.
-  x_drained : (a : Name) (d : ℕ) → a ≡ x → (action_at l.actions a).access ≡ stores d → Has (next.drained d) a
+  x_drained : (a : Name) (d : ℕ) → a ≡ x → (action_at l.actions a).access ≡ stores d → Contains (next.drained d) a
   x_drained a d is access =
       let d_is : c ≡ d = stores_same c d (sym x_stored.access ∙ ap (λ b. (action_at l.actions b).access) (sym is) ∙ access) in
-      subst (λ b. Has (next.drained d) b) (sym is) (subst (λ k. Has (next.drained k) x) d_is (subst (λ names. Has names x) (sym drained_here) (has_push (l.drained c) x)))
+      subst (λ b. Contains (next.drained d) b) (sym is) (subst (λ k. Contains (next.drained k) x) d_is (subst (λ names. Contains names x) (sym drained_here) (Contains-push (l.drained c) x)))
     where
       stores_same : (m n : ℕ) → stores m ≡ stores n → m ≡ n
       stores_same m n is' = cc
 
-  covered_next : (a : Name) (d : ℕ) → Exists l.actions a → (action_at l.actions a).access ≡ stores d → AtPosition a.position (next.waiting a.thread) ⊎ Has (next.drained d) a
+  covered_next : (a : Name) (d : ℕ) → Exists l.actions a → (action_at l.actions a).access ≡ stores d → AtPosition a.position (next.waiting a.thread) ⊎ Contains (next.drained d) a
   covered_next a d there access = ⊎_elim waits (λ done. inr (has_next d a done)) (sound.covered a d there access)
     where
-      waits : AtPosition a.position (l.waiting a.thread) → AtPosition a.position (next.waiting a.thread) ⊎ Has (next.drained d) a
+      waits : AtPosition a.position (l.waiting a.thread) → AtPosition a.position (next.waiting a.thread) ⊎ Contains (next.drained d) a
       waits at =
           ⊎_elim
           (λ is.
@@ -113,7 +108,7 @@ module _ (ls : List Line) (l : Ledger) (sound : Sound ls l) (t c : ℕ) (e : Ent
     locals = sound.locals;
     right = sound.right;
     cells = cells_next;
-    entries = update_all l.waiting t (less_oldest c (l.waiting t)) (λ u. AllByRecursion (Entered l.actions u)) (all_less (Entered l.actions t) c (l.waiting t) (sound.entries t)) (λ u other. sound.entries u);
+    entries = update_all l.waiting t (less_oldest c (l.waiting t)) (λ u. All (Entered l.actions u)) (all_less (Entered l.actions t) c (l.waiting t) (sound.entries t)) (λ u other. sound.entries u);
     rising = update_all l.waiting t (less_oldest c (l.waiting t)) (λ u. λ es. Rising es) (rising_less c (l.waiting t) (sound.rising t)) (λ u other. sound.rising u);
     drained = drained_next;
     apart = apart_next;

@@ -1,7 +1,7 @@
 -- A trace has a sequentially consistent run exactly when it has no ring; and no edge joins an action to itself.
-use Rattle.std.proofs.Common.{◌≡◌, ℕ, zero, suc, ◌<◌, Bool, true, false, ◌&&◌, ◌⊎◌, List, [], ◌∷◌, ◌++◌, length, sym, refl, ap, ◌∙◌, subst, inl, inr, ⊎_elim, arith}
-use Rattle.std.specs.List.{AllByRecursion}
-use Rattle.std.proofs.ByRecursion.{All-append}
+use Rattle.std.proofs.Common.{◌≡◌, ℕ, zero, suc, ◌<◌, Bool, true, false, ◌&&◌, ◌⊎◌, List, [], ◌∷◌, ◌++◌, length, get_or, sym, refl, ap, ◌∙◌, subst, inl, inr, ⊎_elim, arith}
+use Rattle.std.specs.List.{All}
+use Rattle.std.proofs.lemmas.List.Elements.{All-nil, All-cons, All-head, All-append}
 use Rattle.std.proofs.lemmas.Bool.{and_parts, cases_lt, or_cases, true≢false}
 use Rattle.program.specs.declared.lines.Line.{Line}
 use Rattle.ledger.specs.Actions.{Action, Name, Source, from, loads, name, same, stores}
@@ -42,12 +42,12 @@ in_all_of acts (u ∷ us) a among there =
     (λ later. in_right a (up_to u (length (acts u))) (all_of acts us) (in_all_of acts us a later there))
     among
 
-up_to_all : (P : Name → Type 0) (t n : ℕ) → ((p : ℕ) → p < n → P (name t p)) → AllByRecursion P (up_to t n)
-up_to_all P t zero holds = tt
-up_to_all P t (suc n) holds = (holds n (omega arith), up_to_all P t n (λ p lt. holds p (omega (arith, lt))))
+up_to_all : (P : Name → Type 0) (t n : ℕ) → ((p : ℕ) → p < n → P (name t p)) → All P (up_to t n)
+up_to_all P t zero holds = All-nil P
+up_to_all P t (suc n) holds = All-cons P (name t n) (up_to t n) (holds n (omega arith)) (up_to_all P t n (λ p lt. holds p (omega (arith, lt))))
 
-all_of_all : (P : Name → Type 0) (acts : ℕ → List Action) (us : List ℕ) → ((a : Name) → Exists acts a → P a) → AllByRecursion P (all_of acts us)
-all_of_all P acts [] holds = tt
+all_of_all : (P : Name → Type 0) (acts : ℕ → List Action) (us : List ℕ) → ((a : Name) → Exists acts a → P a) → All P (all_of acts us)
+all_of_all P acts [] holds = All-nil P
 all_of_all P acts (u ∷ us) holds = All-append P (up_to u (length (acts u))) (all_of acts us) (up_to_all P u (length (acts u)) (λ p lt. holds (name u p) lt)) (all_of_all P acts us holds)
 
 -- Every action of a ledger is one of these.
@@ -64,7 +64,7 @@ in_names ls l sound a action = in_all_of l.actions threads a (a_thread a.thread 
 pub order_or_ring : (ls : List Line) (l : Ledger) → Sound ls l → ((names : List Name) × Order (trace_of l) names) ⊎ ((names : List Name) × Ring (trace_of l) names)
 order_or_ring ls l sound = go (sort_left (trace_of l) (length names) [] names (omega arith) (record {
   actions = all_of_all (λ a. is_action (trace_of l) a ≡ true) l.actions threads (there_true l);
-  unplaced = all_of_all (λ a. Unit {0}) l.actions threads (λ a there. tt);
+  unplaced = λ k d within. All-nil (λ b. b ≡ get_or names k d → ⊥);
   cover = λ a action. inr (in_names ls l sound a action);
 }))
   where
@@ -91,7 +91,7 @@ next_in_other [] a once so = true≢false (sym so)
 next_in_other (x ∷ []) a once so = true≢false (sym so)
 next_in_other (x ∷ y ∷ names) a once so =
     ⊎_elim
-    (λ here. let parts = and_parts (same x a) (same y a) here in once.0.0 (same_true y a parts.1 ∙ sym (same_true x a parts.0)))
+    (λ here. let parts = and_parts (same x a) (same y a) here in All-head (λ b. b ≡ x → ⊥) y names once.0 (same_true y a parts.1 ∙ sym (same_true x a parts.0)))
     (λ later. next_in_other (y ∷ names) a once.1 later)
     (or_cases (same x a && same y a) (next_in (y ∷ names) a a) so)
 

@@ -1,6 +1,7 @@
 -- A drain over direct adds only edges into the store that drains, which is the latest; so a run gives no ring.
 use Rattle.std.proofs.Common.{◌≡◌, ℕ, ◌+◌, ◌<◌, true, eqb, ltb, ◌⊎◌, List, [], ◌∷◌, ◌++◌, length, get_or, Some, sym, refl, ap, ◌∙◌, subst, inl, inr, ⊎_elim, arith}
-use Rattle.std.specs.List.{AllByRecursion}
+use Rattle.std.specs.List.{All}
+use Rattle.std.proofs.lemmas.List.Elements.{All-nil}
 use Rattle.std.proofs.lemmas.Bool.{and_from, and_parts, eq-eqb, lt-ltb, ltb-true}
 use Rattle.program.specs.declared.lines.Line.{Line}
 use Rattle.buffers.specs.Kinds.{direct}
@@ -88,7 +89,7 @@ module _ (ls : List Line) (l : Ledger) (sound : Sound ls l) (t c : ℕ) (e : Ent
   timed_drain = record {
     below = timed.below;
     up = up_next;
-    last = update_all l.waiting t (less_oldest c (l.waiting t)) (λ u. AllByRecursion (λ f. (a : Name) → Exists l.actions a → (a ≡ name u f.position → ⊥) → time a < time (name u f.position)))
+    last = update_all l.waiting t (less_oldest c (l.waiting t)) (λ u. All (λ f. (a : Name) → Exists l.actions a → (a ≡ name u f.position → ⊥) → time a < time (name u f.position)))
         (all_less (λ f. (a : Name) → Exists l.actions a → (a ≡ name t f.position → ⊥) → time a < time (name t f.position)) c (l.waiting t) (timed.last t)) (λ u other. timed.last u);
   }
 
@@ -128,7 +129,7 @@ times_start = record {
   timed = record {
     below = λ a there. absurd (omega (arith, there));
     up = λ a b joined. absurd (let first = (edge_parts (trace_of start) a b joined).first in omega (arith, first));
-    last = λ t. tt;
+    last = λ t. All-nil (λ e. (a : Name) → Exists start.actions a → (a ≡ name t e.position → ⊥) → 0 < 0);
   };
 }
 

@@ -1,9 +1,9 @@
 -- An order of the nodes makes `sequential` true, and a ring of them makes `violation` true.
 use Rattle.std.proofs.Common.{◌≡◌, ℕ, zero, suc, ◌+◌, ◌-◌, ◌<◌, ◌≤◌, Bool, true, false, cond, ◌&&◌, eqb, ltb, List, [], ◌∷◌, ◌++◌, map, length, get_or, take, drop, sym, refl, ap, ◌∙◌, subst, inl, ⊎_elim, suc-le-suc, arith}
 use lib.ListN.{length-map}
-use Rattle.std.specs.List.{ContainsAt as Has, AllByRecursion}
-use Rattle.std.proofs.ByRecursion.{has_append_left, has_append_right, has_get_or, has_push, has_push_cases}
-use Rattle.std.proofs.lemmas.List.{drop_all, drop_more, get_or-map, get_or-take, length-take, map_push, take_more}
+use Rattle.std.specs.List.{Contains, All}
+use Rattle.std.proofs.lemmas.List.Elements.{All-from_get_or, All-map, Contains-append_left, Contains-get_or, Contains-push, Contains-push_cases}
+use Rattle.std.proofs.lemmas.List.{get_or_default, drop_all, drop_more, get_or-map, get_or-take, length-take, map_push, take_more}
 use Rattle.std.proofs.lemmas.Bool.{and_from, and_parts, cases_eq, cases_lt, cond-false, cond-true, eq-eqb, lt-ltb, ltb-true, ne_eqb}
 use Rattle.graph.specs.Sorting.{Next, Ordered, Ringed}
 use Rattle.program.specs.declared.lines.Line.{Line}
@@ -28,13 +28,12 @@ use Rattle.ledger.proofs.Sound.{Sound, sound_start}
 use Rattle.ledger.proofs.Table.{shows}
 
 -- What a list has, its image has.
-has_map : {X Y : Type 0} (f : X → Y) (xs : List X) (x : X) → Has xs x → Has (map f xs) (f x)
-has_map f xs x has = (has.0, omega (arith, has.1, length-map xs f), λ d. get_or-map f xs has.0 x d has.1 ∙ ap f (has.2 x))
+has_map : {X Y : Type 0} (f : X → Y) (xs : List X) (x : X) → Contains xs x → Contains (map f xs) (f x)
+has_map f xs x has = (has.0, omega (arith, has.1, length-map xs f), get_or-map f xs has.0 x (f x) has.1 ∙ ap f has.2)
 
 -- A list lacks what it does not have.
-lacks_from : (names : List Name) (a : Name) → (Has names a → ⊥) → Lacks names a
-lacks_from [] a none_there = tt
-lacks_from (b ∷ names) a none_there = ((λ is. none_there (0, omega arith, λ d. is)), lacks_from names a (λ has. none_there (has_append_right (b ∷ []) names a has)))
+lacks_from : (names : List Name) (a : Name) → (Contains names a → ⊥) → Lacks names a
+lacks_from names a none_there = λ k d within is. none_there (k, within, get_or_default names k a d within ∙ is)
 
 -- how many of the names are of a thread, with one name more
 count_same : (names : List Name) (b : Name) (t : ℕ) → b.thread ≡ t → count_of t (names ++ b ∷ []) ≡ suc (count_of t names)
@@ -55,8 +54,8 @@ count_other (a ∷ names) b t other = go (eqb a.thread t) (count_other names b t
 
 -- the names of each thread are its first actions
 record Counted (placed : List Name) : Type 0 where
-  placed_below : (t p : ℕ) → p < count_of t placed → Has placed (name t p)
-  below : (a : Name) → Has placed a → a.position < count_of a.thread placed
+  placed_below : (t p : ℕ) → p < count_of t placed → Contains placed (name t p)
+  below : (a : Name) → Contains placed a → a.position < count_of a.thread placed
 
 counted_none : Counted []
 counted_none = record { placed_below = λ t p lt. absurd (omega (arith, lt)); below = λ a has. absurd (omega (arith, has.1)) }
@@ -83,15 +82,15 @@ module _ (l : Ledger) (placed : List Name) (counted : Counted placed) (b : Name)
         (λ is.
         let n = count_same placed b t is in
         ⊎_elim
-        (λ below'. has_append_left placed (b ∷ []) (name t p) (counted.placed_below t p below'))
-        (λ past. subst (Has (placed ++ b ∷ [])) (λ i. record { thread = is i; position = position_is t p is past lt n i }) (has_push placed b))
+        (λ below'. Contains-append_left placed (b ∷ []) (name t p) (counted.placed_below t p below'))
+        (λ past. subst (Contains (placed ++ b ∷ [])) (λ i. record { thread = is i; position = position_is t p is past lt n i }) (Contains-push placed b))
         (cases_lt p (count_of t placed)))
-        (λ other. has_append_left placed (b ∷ []) (name t p) (counted.placed_below t p (subst (λ n. p < n) (count_other placed b t other) lt)))
+        (λ other. Contains-append_left placed (b ∷ []) (name t p) (counted.placed_below t p (subst (λ n. p < n) (count_other placed b t other) lt)))
         (cases_eq b.thread t);
     below = λ a has. ⊎_elim
         (λ old. let lt = counted.below a old in ⊎_elim (λ is. let n = count_same placed b a.thread is in omega (arith, lt, n)) (λ other. subst (λ n. a.position < n) (sym (count_other placed b a.thread other)) lt) (cases_eq b.thread a.thread))
         (λ is. subst (λ k. k.position < count_of k.thread (placed ++ b ∷ [])) is (let n = count_same placed b b.thread refl in omega (arith, n, counted_next)))
-        (has_push_cases placed b a has);
+        (Contains-push_cases placed b a has);
   }
     where
       position_is : (t p : ℕ) → b.thread ≡ t → count_of t placed ≤ p → p < count_of t (placed ++ b ∷ []) → count_of t (placed ++ b ∷ []) ≡ suc (count_of t placed) → b.position ≡ p
@@ -121,22 +120,22 @@ module _ (ls : List Line) (l : Ledger) (sound : Sound ls l) where
     placed_at k = map (node_name x) (take k ns)
 
     -- Each number that is placed is a node's.
-    placed_node : (k u : ℕ) → k ≤ size → Has (take k ns) u → u < size
+    placed_node : (k u : ℕ) → k ≤ size → Contains (take k ns) u → u < size
     placed_node k u le has =
         let j = has.0 in
         let j_in : j < k = let n = length-take k ns in omega (arith, has.1, n) in
-        let is : get_or ns j 0 ≡ u = sym (get_or-take k ns j 0 j_in) ∙ has.2 0 in
+        let is : get_or ns j 0 ≡ u = sym (get_or-take k ns j 0 j_in) ∙ get_or_default (take k ns) j 0 u has.1 ∙ has.2 in
         subst (λ v. v < size) is (ordered.next j (omega (arith, j_in, le))).could.node
 
     -- A number is placed where its name is.
-    unplace : (k y : ℕ) → k ≤ size → y < size → Has (placed_at k) (node_name x y) → Has (take k ns) y
+    unplace : (k y : ℕ) → k ≤ size → y < size → Contains (placed_at k) (node_name x y) → Contains (take k ns) y
     unplace k y le y_in has =
         let j = has.0 in
         let j_in : j < length (take k ns) = let n = length-map (take k ns) (node_name x) in omega (arith, has.1, n) in
         let u = get_or (take k ns) j 0 in
-        let u_has = has_get_or (take k ns) j 0 j_in in
-        let is : node_name x u ≡ node_name x y = sym (get_or-map (node_name x) (take k ns) j 0 (name 0 0) j_in) ∙ has.2 (name 0 0) in
-        subst (Has (take k ns)) (one_number x u y (placed_node k u le u_has) y_in is) u_has
+        let u_has = Contains-get_or (take k ns) j 0 j_in in
+        let is : node_name x u ≡ node_name x y = sym (get_or-map (node_name x) (take k ns) j 0 (node_name x y) j_in) ∙ has.2 in
+        subst (Contains (take k ns)) (one_number x u y (placed_node k u le u_has) y_in is) u_has
 
     module _ (k : ℕ) (within : k < size) where
       abbrev v : ℕ
@@ -158,7 +157,7 @@ module _ (ls : List Line) (l : Ledger) (sound : Sound ls l) where
       b_ready a joined =
           let n = number a (edge_parts x a b joined).first in
           let placed = next.could.ready n.0 (joins_from n.0 v n.1 next.could.node (subst (λ y. edge x y b ≡ true) (sym n.2) joined)) in
-          subst (Has (placed_at k)) n.2 (has_map (node_name x) (take k ns) n.0 placed)
+          subst (Contains (placed_at k)) n.2 (has_map (node_name x) (take k ns) n.0 placed)
 
       -- No lower thread has an action that is ready.
       b_lowest : Counted (placed_at k) → (u : ℕ) → u < b.thread → is_action x (next_of (placed_at k) u) ≡ true → Ready x (placed_at k) (next_of (placed_at k) u) → ⊥
@@ -168,7 +167,7 @@ module _ (ls : List Line) (l : Ledger) (sound : Sound ls l) where
           let w = n.0 in
           let le = next.lowest w (record {
             node = n.1;
-            new = λ has. let far = counted.below a (subst (Has (placed_at k)) n.2 (has_map (node_name x) (take k ns) w has)) in omega (arith, far);
+            new = λ has. let far = counted.below a (subst (Contains (placed_at k)) n.2 (has_map (node_name x) (take k ns) w has)) in omega (arith, far);
             ready = λ y joined. let parts = joins_to y w joined in unplace k y (omega (arith, within)) parts.0 (ready (node_name x y) (subst (λ z. edge x (node_name x y) z ≡ true) n.2 parts.2));
           }) in
           let low : Lower (node_name x w) b = subst (λ z. Lower z b) (sym n.2) (inl lt) in
@@ -200,7 +199,7 @@ module _ (ls : List Line) (l : Ledger) (sound : Sound ls l) where
     pub nodes_order : Order x (map (node_name x) ns)
     nodes_order = record {
       ordered = in_order_from size 0 (omega arith);
-      all = λ a action. let n = number a (there_from l a action) in subst (Has (map (node_name x) ns)) n.2 (has_map (node_name x) ns n.0 (ordered.all n.0 n.1));
+      all = λ a action. let n = number a (there_from l a action) in subst (Contains (map (node_name x) ns)) n.2 (has_map (node_name x) ns n.0 (ordered.all n.0 n.1));
     }
 
     pub nodes_lowest : LowestFirst x [] (map (node_name x) ns)
@@ -216,9 +215,8 @@ module _ (ls : List Line) (l : Ledger) (sound : Sound ls l) where
         (cases_lt (k + 1) (length ns))
 
 -- What holds of all places of a list holds of all of its image.
-all_places : (x : Trace) (P : Name → Type 0) (ns : List ℕ) → ((k : ℕ) → k < length ns → P (node_name x (get_or ns k 0))) → AllByRecursion P (map (node_name x) ns)
-all_places x P [] holds = tt
-all_places x P (n ∷ ns) holds = (holds 0 (omega arith), all_places x P ns (λ k within. holds (suc k) (suc-le-suc within)))
+all_places : (x : Trace) (P : Name → Type 0) (ns : List ℕ) → ((k : ℕ) → k < length ns → P (node_name x (get_or ns k 0))) → All P (map (node_name x) ns)
+all_places x P ns holds = All-map P (node_name x) ns (All-from_get_or (λ n. P (node_name x n)) ns 0 holds)
 
 -- Different numbers of nodes are different actions.
 different_nodes : (x : Trace) (ns : List ℕ) → ((k : ℕ) → k < length ns → get_or ns k 0 < length (nodes x)) → ((i k : ℕ) → i < k → k < length ns → get_or ns i 0 ≡ get_or ns k 0 → ⊥) → Different (map (node_name x) ns)

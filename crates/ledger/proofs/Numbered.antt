@@ -1,7 +1,7 @@
 -- The numbering of a trace's actions: every action has one number, lower actions have lower numbers.
 use Rattle.std.proofs.Common.{◌≡◌, ℕ, zero, suc, ◌+◌, ◌<◌, ◌≤◌, ◌⊎◌, List, [], ◌∷◌, ◌++◌, length, get_or, sym, refl, ap, subst, inl, inr, ⊎_elim, suc-le-suc, le_of_suc-le-suc, arith}
-use Rattle.std.specs.List.{AllByRecursion}
-use Rattle.std.proofs.ByRecursion.{All-append, All-get_or, All-weaker}
+use Rattle.std.specs.List.{All}
+use Rattle.std.proofs.lemmas.List.Elements.{All-nil, All-cons, All-head, All-tail, All-append, All-get_or, All-weaker}
 use Rattle.std.proofs.lemmas.Bool.{cases_lt}
 use Rattle.ledger.specs.Actions.{Action, Name, name}
 use Rattle.ledger.specs.Edges.{Trace}
@@ -15,16 +15,16 @@ use Rattle.ledger.proofs.Sorting.{In, in_left, in_right}
 -- each comes before all that follow, by thread and then by position
 abbrev pub Rising : List Name → Type 0
 Rising [] = Unit {0}
-Rising (a ∷ names) = AllByRecursion (Lower a) names × Rising names
+Rising (a ∷ names) = All (Lower a) names × Rising names
 
-rising_append : (xs ys : List Name) → Rising xs → Rising ys → AllByRecursion (λ a. AllByRecursion (Lower a) ys) xs → Rising (xs ++ ys)
+rising_append : (xs ys : List Name) → Rising xs → Rising ys → All (λ a. All (Lower a) ys) xs → Rising (xs ++ ys)
 rising_append [] ys up above apart = above
-rising_append (a ∷ xs) ys up above apart = (All-append (Lower a) xs ys up.0 apart.0, rising_append xs ys up.1 above apart.1)
+rising_append (a ∷ xs) ys up above apart = (All-append (Lower a) xs ys up.0 (All-head (λ b. All (Lower b) ys) a xs apart), rising_append xs ys up.1 above (All-tail (λ b. All (Lower b) ys) a xs apart))
 
 -- what is known of a run of names
-of_run : (P : Name → Type 0) (t p n : ℕ) → ((q : ℕ) → p ≤ q → q < p + n → P (name t q)) → AllByRecursion P (run_of_names t p n)
-of_run P t p zero holds = tt
-of_run P t p (suc n) holds = (holds p (omega arith) (omega arith), of_run P t (suc p) n (λ q low high. holds q (omega (arith, low)) (omega (arith, high))))
+of_run : (P : Name → Type 0) (t p n : ℕ) → ((q : ℕ) → p ≤ q → q < p + n → P (name t q)) → All P (run_of_names t p n)
+of_run P t p zero holds = All-nil P
+of_run P t p (suc n) holds = All-cons P (name t p) (run_of_names t (suc p) n) (holds p (omega arith) (omega arith)) (of_run P t (suc p) n (λ q low high. holds q (omega (arith, low)) (omega (arith, high))))
 
 run_rises : (t p n : ℕ) → Rising (run_of_names t p n)
 run_rises t p zero = tt
@@ -47,27 +47,29 @@ in_nodes acts (t ∷ ts) a among there =
     among
 
 -- Every number is an action's.
-pub nodes_exist : (acts : ℕ → List Action) (ts : List ℕ) → AllByRecursion (Exists acts) (nodes_of acts ts)
-nodes_exist acts [] = tt
+pub nodes_exist : (acts : ℕ → List Action) (ts : List ℕ) → All (Exists acts) (nodes_of acts ts)
+nodes_exist acts [] = All-nil (Exists acts)
 nodes_exist acts (t ∷ ts) = All-append (Exists acts) (run_of_names t 0 (length (acts t))) (nodes_of acts ts) (of_run (Exists acts) t 0 (length (acts t)) (λ q low high. omega (arith, high))) (nodes_exist acts ts)
 
--- numbers of threads that rise
-abbrev RisingThreads : List ℕ → Type 0
-RisingThreads [] = Unit {0}
-RisingThreads (t ∷ ts) = AllByRecursion (λ u. t < u) ts × RisingThreads ts
+-- numbers of threads that rise, from p on
+abbrev RisingFrom : ℕ → List ℕ → Type 0
+RisingFrom p [] = Unit {0}
+RisingFrom p (t ∷ ts) = (p ≤ t) × RisingFrom (suc t) ts
 
-later_threads : (acts : ℕ → List Action) (t : ℕ) (ts : List ℕ) → AllByRecursion (λ u. t < u) ts → AllByRecursion (λ a. t < a.thread) (nodes_of acts ts)
-later_threads acts t [] above = tt
-later_threads acts t (u ∷ ts) above = All-append (λ a. t < a.thread) (run_of_names u 0 (length (acts u))) (nodes_of acts ts) (of_run (λ a. t < a.thread) u 0 (length (acts u)) (λ q low high. above.0)) (later_threads acts t ts above.1)
+later_threads : (acts : ℕ → List Action) (p : ℕ) (ts : List ℕ) → RisingFrom p ts → All (λ a. p ≤ a.thread) (nodes_of acts ts)
+later_threads acts p [] up = All-nil (λ a. p ≤ a.thread)
+later_threads acts p (t ∷ ts) up =
+    All-append (λ a. p ≤ a.thread) (run_of_names t 0 (length (acts t))) (nodes_of acts ts) (of_run (λ a. p ≤ a.thread) t 0 (length (acts t)) (λ q low high. up.0))
+    (All-weaker (λ a. suc t ≤ a.thread) (λ a. p ≤ a.thread) (λ a later. let first = up.0 in omega (arith, first, later)) (nodes_of acts ts) (later_threads acts (suc t) ts up.1))
 
-nodes_rise : (acts : ℕ → List Action) (ts : List ℕ) → RisingThreads ts → Rising (nodes_of acts ts)
-nodes_rise acts [] up = tt
-nodes_rise acts (t ∷ ts) up =
-    rising_append (run_of_names t 0 (length (acts t))) (nodes_of acts ts) (run_rises t 0 (length (acts t))) (nodes_rise acts ts up.1)
-    (of_run (λ a. AllByRecursion (Lower a) (nodes_of acts ts)) t 0 (length (acts t)) (λ q low high. All-weaker (λ a. t < a.thread) (Lower (name t q)) (λ a lt. inl lt) (nodes_of acts ts) (later_threads acts t ts up.0)))
+nodes_rise : (acts : ℕ → List Action) (p : ℕ) (ts : List ℕ) → RisingFrom p ts → Rising (nodes_of acts ts)
+nodes_rise acts p [] up = tt
+nodes_rise acts p (t ∷ ts) up =
+    rising_append (run_of_names t 0 (length (acts t))) (nodes_of acts ts) (run_rises t 0 (length (acts t))) (nodes_rise acts (suc t) ts up.1)
+    (of_run (λ a. All (Lower a) (nodes_of acts ts)) t 0 (length (acts t)) (λ q low high. All-weaker (λ a. suc t ≤ a.thread) (Lower (name t q)) (λ a later. inl later) (nodes_of acts ts) (later_threads acts (suc t) ts up.1)))
 
-threads_rise : RisingThreads threads
-threads_rise = ((omega arith, (omega arith, (omega arith, (omega arith, (omega arith, (omega arith, (omega arith, tt))))))), ((omega arith, (omega arith, (omega arith, (omega arith, (omega arith, (omega arith, tt)))))), ((omega arith, (omega arith, (omega arith, (omega arith, (omega arith, tt))))), ((omega arith, (omega arith, (omega arith, (omega arith, tt)))), ((omega arith, (omega arith, (omega arith, tt))), ((omega arith, (omega arith, tt)), ((omega arith, tt), (tt, tt))))))))
+threads_rise : RisingFrom 0 threads
+threads_rise = (omega arith, (omega arith, (omega arith, (omega arith, (omega arith, (omega arith, (omega arith, (omega arith, tt))))))))
 
 -- Lower numbers are lower actions.
 rising_at : (names : List Name) (d : Name) → Rising names → (i j : ℕ) → i < j → j < length names → Lower (get_or names i d) (get_or names j d)
@@ -78,7 +80,7 @@ rising_at (a ∷ names) d up (suc i) zero lt within = absurd (omega (arith, lt))
 rising_at (a ∷ names) d up (suc i) (suc j) lt within = rising_at names d up.1 i j (le_of_suc-le-suc lt) (le_of_suc-le-suc within)
 
 pub node_lower : (x : Trace) (i j : ℕ) → i < j → j < length (nodes x) → Lower (node_name x i) (node_name x j)
-node_lower x i j lt within = rising_at (nodes x) (name 8 0) (nodes_rise x.actions threads threads_rise) i j lt within
+node_lower x i j lt within = rising_at (nodes x) (name 8 0) (nodes_rise x.actions 0 threads threads_rise) i j lt within
 
 -- No action is lower than itself, and of two only one is lower.
 pub lower_self : (a b : Name) → a ≡ b → Lower a b → ⊥

@@ -1,7 +1,7 @@
 -- An order gives a run: all its entries, from the start to the whole trace.
 use Rattle.std.proofs.Common.{◌≡◌, ℕ, zero, suc, ◌<◌, ◌≤◌, List, [], ◌∷◌, ◌++◌, length, get_or, sym, refl, ◌∙◌, subst, append_assoc, append-nil, arith}
-use Rattle.std.specs.List.{ContainsAt as Has}
-use Rattle.std.proofs.ByRecursion.{All-get_or}
+use Rattle.std.specs.List.{Contains}
+use Rattle.std.proofs.lemmas.List.Elements.{All-get_or}
 use Rattle.std.proofs.lemmas.List.{take_all}
 use Rattle.program.specs.declared.lines.Line.{Line}
 use Rattle.buffers.specs.Kinds.{direct}
@@ -54,7 +54,7 @@ module _ (ls : List Line) (l : Ledger) (sound : Sound ls l) (empty : NothingWait
       )
 
   -- With every action placed, the trace is whole.
-  part_whole : (names : List Name) (m : Ledger) → Part ls l names m → ((a : Name) → Exists l.actions a → Has names a) → SameTrace (trace_of m) (trace_of l)
+  part_whole : (names : List Name) (m : Ledger) → Part ls l names m → ((a : Name) → Exists l.actions a → Contains names a) → SameTrace (trace_of m) (trace_of l)
   part_whole names m part all = record {
     actions = λ t. part.actions t ∙ take_all (length (m.actions t)) (l.actions t) (all_actions t (length (l.actions t)) refl);
     drained = λ c. part.drained c ∙ take_all (length (m.drained c)) (l.drained c) (all_drained c (length (l.drained c)) refl);

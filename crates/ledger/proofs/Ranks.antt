@@ -1,7 +1,7 @@
 -- Ranks in a list of names: who stands next, who stands last, and that no name has two.
 use Rattle.std.proofs.Common.{◌≡◌, ℕ, zero, suc, ◌+◌, ◌<◌, true, ◌&&◌, List, [], ◌∷◌, length, get_or, take, Some, sym, refl, ap, le_of_suc-le-suc, not-suc-le-zero, arith}
-use Rattle.std.specs.List.{ContainsAt as Has}
-use Rattle.std.proofs.ByRecursion.{All-get_or}
+use Rattle.std.specs.List.{Contains}
+use Rattle.std.proofs.lemmas.List.Elements.{All-contains, All-get_or}
 use Rattle.std.proofs.lemmas.Bool.{and_from, or_left, or_right}
 use Rattle.ledger.specs.Actions.{Name, same}
 use Rattle.ledger.specs.Edges.{first_in, next_in}
@@ -37,5 +37,5 @@ one_rank (a ∷ names) once (suc i) zero d i_in j_in is = absurd (All-get_or (λ
 one_rank (a ∷ names) once (suc i) (suc j) d i_in j_in is = ap suc (one_rank names once.1 i j d (le_of_suc-le-suc i_in) (le_of_suc-le-suc j_in) is)
 
 -- What a list lacks it does not have.
-pub lacks_has : (names : List Name) (a : Name) → Lacks names a → Has names a → ⊥
-lacks_has names a lacks has = All-get_or (λ b. b ≡ a → ⊥) names has.0 a has.1 lacks (has.2 a)
+pub lacks_has : (names : List Name) (a : Name) → Lacks names a → Contains names a → ⊥
+lacks_has names a lacks has = All-contains (λ b. b ≡ a → ⊥) names a lacks has refl

@@ -1,8 +1,8 @@
 -- An order gives a run: its actions, one after another over direct, lead to the same trace.
 use Rattle.std.proofs.Common.{◌≡◌, ℕ, zero, suc, ◌+◌, ◌<◌, ◌≤◌, Bool, true, ◌&&◌, ◌||◌, eqb, List, length, get_or, take, Some, None, sym, refl, ap, ◌∙◌, subst, ⊎_elim, arith}
-use Rattle.std.specs.List.{ContainsAt as Has}
-use Rattle.std.proofs.ByRecursion.{All-get_or}
-use Rattle.std.proofs.lemmas.List.{get_or-take, length-take, nil_from_length}
+use Rattle.std.specs.List.{Contains}
+use Rattle.std.proofs.lemmas.List.Elements.{All-get_or}
+use Rattle.std.proofs.lemmas.List.{get_or_default, get_or-take, length-take, nil_from_length}
 use Rattle.std.proofs.lemmas.Bool.{and_from, cases_lt, eq-eqb, lt-ltb, ltb-true, or_left, or_right}
 use Rattle.program.specs.declared.lines.Line.{Line}
 use Rattle.ledger.specs.Actions.{Access, Name, Source, from, initial, loads, name, stores}
@@ -55,9 +55,9 @@ pub record Part (ls : List Line) (l : Ledger) (placed : List Name) (m : Ledger) 
   pub empty : NothingWaits m
   pub actions : (t : ℕ) → m.actions t ≡ take (length (m.actions t)) (l.actions t)
   pub drained : (c : ℕ) → m.drained c ≡ take (length (m.drained c)) (l.drained c)
-  pub is_placed : (a : Name) → Exists m.actions a → Has placed a
-  pub there : (a : Name) → Has placed a → Exists m.actions a
-  pub closed : (a b : Name) → Has placed b → edge (trace_of l) a b ≡ true → Has placed a
+  pub is_placed : (a : Name) → Exists m.actions a → Contains placed a
+  pub there : (a : Name) → Contains placed a → Exists m.actions a
+  pub closed : (a b : Name) → Contains placed b → edge (trace_of l) a b ≡ true → Contains placed a
 
 -- Where nothing waits, no entry stands anywhere.
 nowhere : (l : Ledger) → NothingWaits l → (t p : ℕ) → AtPosition p (l.waiting t) → ⊥
@@ -89,7 +89,7 @@ module _ (ls : List Line) (l : Ledger) (sound : Sound ls l) (empty : NothingWait
   rank_exists c q d within = subst (Exists m.actions) (rank_is c q d within) (All-get_or (StoreTo m.actions c) (m.drained c) q d within (part.sound.drained c)).exists
 
   -- A store that is placed has such a rank.
-  pub placed_rank : (c q : ℕ) (d : Name) → q < length (l.drained c) → Has placed (get_or (l.drained c) q d) → q < length (m.drained c)
+  pub placed_rank : (c q : ℕ) (d : Name) → q < length (l.drained c) → Contains placed (get_or (l.drained c) q d) → q < length (m.drained c)
   placed_rank c q d within has =
       let a = get_or (l.drained c) q d in
       let there = part.there a has in
@@ -97,8 +97,8 @@ module _ (ls : List Line) (l : Ledger) (sound : Sound ls l) (empty : NothingWait
       ⊎_elim
       (λ waits. absurd (nowhere m part.empty a.thread a.position waits))
       (λ in_List.
-      let k_is : get_or (l.drained c) in_List.0 d ≡ get_or (l.drained c) q d = sym (rank_is c in_List.0 d in_List.1) ∙ in_List.2 d in
-      let same_rank = one_rank (l.drained c) (sound.once c) in_List.0 q d (omega (arith, in_List.1, fewer c)) within k_is in
+      let k_is : get_or (l.drained c) in_List.0 a ≡ get_or (l.drained c) q a = sym (rank_is c in_List.0 a in_List.1) ∙ in_List.2 ∙ get_or_default (l.drained c) q d a within in
+      let same_rank = one_rank (l.drained c) (sound.once c) in_List.0 q a (omega (arith, in_List.1, fewer c)) within k_is in
       subst (λ k. k < length (m.drained c)) same_rank in_List.1)
       (part.sound.covered a c there (ap (λ y. y.access) (whole_is a there) ∙ store.access))
 
@@ -124,11 +124,11 @@ module _ (ls : List Line) (l : Ledger) (sound : Sound ls l) (empty : NothingWait
 
   -- A store has the next rank of its cell: the one before it is placed.
   module _ (c : ℕ) (store : (action_at l.actions b).access ≡ stores c) where
-    b_drained : Has (l.drained c) b
+    b_drained : Contains (l.drained c) b
     b_drained = ⊎_elim (λ waits. absurd (nowhere l empty b.thread b.position waits)) (λ in_List. in_List) (sound.covered b c b_there store)
 
     low : length (m.drained c) ≤ b_drained.0
-    low = ⊎_elim (λ below. absurd (b_new (subst (Exists m.actions) (b_drained.2 b) (rank_exists ls l sound empty placed m part c b_drained.0 b below)))) (λ past. past) (cases_lt b_drained.0 (length (m.drained c)))
+    low = ⊎_elim (λ below. absurd (b_new (subst (Exists m.actions) b_drained.2 (rank_exists ls l sound empty placed m part c b_drained.0 b below)))) (λ past. past) (cases_lt b_drained.0 (length (m.drained c)))
 
     rank : b_drained.0 ≡ length (m.drained c)
     rank = go b_drained.0 refl
@@ -139,12 +139,12 @@ module _ (ls : List Line) (l : Ledger) (sound : Sound ls l) (empty : NothingWait
             let within : q < length (l.drained c) = omega (arith, b_drained.1, is) in
             let a = get_or (l.drained c) q b in
             let a_store = All-get_or (StoreTo l.actions c) (l.drained c) q b within (sound.drained c) in
-            let next : next_in (l.drained c) a b ≡ true = subst (λ y. next_in (l.drained c) a y ≡ true) (ap (λ k. get_or (l.drained c) k b) (sym is) ∙ b_drained.2 b) (next_at (l.drained c) q b (omega (arith, b_drained.1, is))) in
+            let next : next_in (l.drained c) a b ≡ true = subst (λ y. next_in (l.drained c) a y ≡ true) (ap (λ k. get_or (l.drained c) k b) (sym is) ∙ b_drained.2) (next_at (l.drained c) q b (omega (arith, b_drained.1, is))) in
             let before = placed_rank ls l sound empty placed m part c q b within (b_ready a (by_store_order (trace_of l) a b (there_true l a a_store.exists) b_action c a_store.access next)) in
             omega (arith, low, is, before)
 
     pub b_rank : get_or (l.drained c) (length (m.drained c)) b ≡ b
-    b_rank = subst (λ k. get_or (l.drained c) k b ≡ b) rank (b_drained.2 b)
+    b_rank = subst (λ k. get_or (l.drained c) k b ≡ b) rank b_drained.2
 
     pub b_within : length (m.drained c) < length (l.drained c)
     b_within = subst (λ k. k < length (l.drained c)) rank b_drained.1
@@ -168,13 +168,13 @@ module _ (ls : List Line) (l : Ledger) (sound : Sound ls l) (empty : NothingWait
         ap (in_memory m c) last ∙ ap (λ v. record { source = initial; value = v }) (zero_held ∙ sym (sound.sources b c initial b_there load))
     finds (from s) load =
         let stored = sound.sources b c (from s) b_there load in
-        let drained : Has (l.drained c) s = ⊎_elim (λ waits. absurd (nowhere l empty s.thread s.position waits)) (λ in_List. in_List) (sound.covered s c stored.exists stored.access) in
+        let drained : Contains (l.drained c) s = ⊎_elim (λ waits. absurd (nowhere l empty s.thread s.position waits)) (λ in_List. in_List) (sound.covered s c stored.exists stored.access) in
         let r = drained.0 in
         let s_placed = b_ready s (by_reads_from (trace_of l) s b (there_true l s stored.exists) b_action c (from s) load (same_self s s refl)) in
-        let below : r < length (m.drained c) = placed_rank ls l sound empty placed m part c r s drained.1 (subst (Has placed) (sym (drained.2 s)) s_placed) in
+        let below : r < length (m.drained c) = placed_rank ls l sound empty placed m part c r s drained.1 (subst (Contains placed) (sym drained.2) s_placed) in
         let above : length (m.drained c) ≤ suc r = ⊎_elim
-        (λ more. absurd (none_after (from s) load (suc r) more (subst (λ y. next_in (l.drained c) y (get_or (l.drained c) (suc r) b) ≡ true) (drained.2 b) (next_at (l.drained c) r b (omega (arith, more, fewer ls l sound empty placed m part c))))))
+        (λ more. absurd (none_after (from s) load (suc r) more (subst (λ y. next_in (l.drained c) y (get_or (l.drained c) (suc r) b) ≡ true) (get_or_default (l.drained c) r b s drained.1 ∙ drained.2) (next_at (l.drained c) r b (omega (arith, more, fewer ls l sound empty placed m part c))))))
         (λ past. past) (cases_lt (suc r) (length (m.drained c))) in
         let end : length (m.drained c) ≡ suc r = omega (arith, below, above) in
-        let last : last_of (m.drained c) ≡ Some s = ap last_of (part.drained c ∙ ap (λ k. take k (l.drained c)) end) ∙ last_take (l.drained c) r s drained.1 ∙ ap Some (drained.2 s) in
+        let last : last_of (m.drained c) ≡ Some s = ap last_of (part.drained c ∙ ap (λ k. take k (l.drained c)) end) ∙ last_take (l.drained c) r s drained.1 ∙ ap Some drained.2 in
         ap (in_memory m c) last ∙ ap (λ v. record { source = from s; value = v }) (ap (λ y. y.value) (whole_is ls l sound empty placed m part s (part.there s s_placed)) ∙ stored.value)

@@ -1,9 +1,9 @@
 -- A trace without a ring has an order: place what is ready, until nothing is left; if something is left and nothing is
 -- ready, going back from one to what blocks it must come round.
-use Rattle.std.proofs.Common.{◌≡◌, ℕ, zero, suc, ◌+◌, ◌<◌, ◌≤◌, Bool, true, false, cond, not, ◌&&◌, ◌⊎◌, List, [], ◌∷◌, ◌++◌, length, filter, sym, refl, ap, ◌∙◌, subst, inl, inr, ⊎_elim, append_assoc, suc-le-suc, arith, length-append}
-use Rattle.std.specs.List.{ContainsAt as Has, AllByRecursion}
-use Rattle.std.proofs.ByRecursion.{all_kept_by, All-push, has_append_left, has_push}
-use Rattle.std.proofs.lemmas.Bool.{and_parts, both_ways, true≢false}
+use Rattle.std.proofs.Common.{◌≡◌, ℕ, zero, suc, ◌+◌, ◌<◌, ◌≤◌, Bool, true, false, cond, not, ◌&&◌, ◌⊎◌, List, [], ◌∷◌, ◌++◌, length, get_or, filter, sym, refl, ap, ◌∙◌, subst, inl, inr, ⊎_elim, append_assoc, suc-le-suc, arith, length-append}
+use Rattle.std.specs.List.{Contains, All}
+use Rattle.std.proofs.lemmas.List.Elements.{All-nil, All-cons, All-head, All-tail, All-filter, All-push, All-weaker, filter_passes, Contains-append_left, Contains-push}
+use Rattle.std.proofs.lemmas.Bool.{and_parts, both_ways, not-true, true≢false}
 use Rattle.ledger.specs.Actions.{Name, same}
 use Rattle.ledger.specs.Edges.{Trace, edge, is_action}
 use Rattle.ledger.specs.Orders.{InOrder, Lacks, Ready}
@@ -16,13 +16,9 @@ abbrev pub In : Name → List Name → Type 0
 In a [] = ⊥
 In a (b ∷ names) = (b ≡ a) ⊎ In a names
 
-pub in_all : (P : Name → Type 0) (names : List Name) (a : Name) → AllByRecursion P names → In a names → P a
+pub in_all : (P : Name → Type 0) (names : List Name) (a : Name) → All P names → In a names → P a
 in_all P [] a all there = absurd there
-in_all P (b ∷ names) a all there = ⊎_elim (λ is. subst P is all.0) (λ later. in_all P names a all.1 later) there
-
-pub all_in : (P : Name → Type 0) (names : List Name) → ((a : Name) → In a names → P a) → AllByRecursion P names
-all_in P [] holds = tt
-all_in P (b ∷ names) holds = (holds b (inl refl), all_in P names (λ a there. holds a (inr there)))
+in_all P (b ∷ names) a all there = ⊎_elim (λ is. subst P is (All-head P b names all)) (λ later. in_all P names a (All-tail P b names all) later) there
 
 pub in_left : (a : Name) (xs ys : List Name) → In a xs → In a (xs ++ ys)
 in_left a [] ys there = absurd there
@@ -34,35 +30,34 @@ in_right a (x ∷ xs) ys there = inr (in_right a xs ys there)
 
 -- A list has the name at some place, or lacks it.
 pub split : (names : List Name) (a : Name) → ((before : List Name) × ((after : List Name) × (names ≡ before ++ a ∷ after))) ⊎ Lacks names a
-split [] a = inr tt
+split [] a = inr (All-nil (λ b. b ≡ a → ⊥))
 split (b ∷ names) a = go (same b a) refl (split names a)
   where
     go : (k : Bool) → same b a ≡ k → ((before : List Name) × ((after : List Name) × (names ≡ before ++ a ∷ after))) ⊎ Lacks names a → ((before : List Name) × ((after : List Name) × (b ∷ names ≡ before ++ a ∷ after))) ⊎ Lacks (b ∷ names) a
     go true is rest = inl ([], (names, ap (λ y. y ∷ names) (same_true b a is)))
     go false is (inl found) = inl (b ∷ found.0, (found.1.0, ap (λ l. b ∷ l) found.1.1))
-    go false is (inr lacks) = inr ((λ e. true≢false (sym (same_self b a e) ∙ is)), lacks)
+    go false is (inr lacks) = inr (All-cons (λ d. d ≡ a → ⊥) b names (λ e. true≢false (sym (same_self b a e) ∙ is)) lacks)
 
 -- Of the names of a list with x in it, those that are not x are in the list without it.
 out_of : (x : Name) (before after : List Name) (a : Name) → (a ≡ x → ⊥) → In a (before ++ x ∷ after) → In a (before ++ after)
 out_of x [] after a other there = ⊎_elim (λ e. absurd (other (sym e))) (λ later. later) there
 out_of x (b ∷ before) after a other there = ⊎_elim (λ e. inl e) (λ later. inr (out_of x before after a other later)) there
 
-elsewhere : (x : Name) (before after ys : List Name) → ys ≡ before ++ x ∷ after → (zs : List Name) → Lacks zs x → AllByRecursion (λ a. In a ys) zs → AllByRecursion (λ a. In a (before ++ after)) zs
-elsewhere x before after ys is [] lacks there = tt
-elsewhere x before after ys is (z ∷ zs) lacks there = (out_of x before after z lacks.0 (subst (In z) is there.0), elsewhere x before after ys is zs lacks.1 there.1)
+elsewhere : (x : Name) (before after ys : List Name) → ys ≡ before ++ x ∷ after → (zs : List Name) → Lacks zs x → All (λ a. In a ys) zs → All (λ a. In a (before ++ after)) zs
+elsewhere x before after ys is zs lacks there = λ k d within. out_of x before after (get_or zs k d) (lacks k d within) (subst (In (get_or zs k d)) is (there k d within))
 
 -- No more different names than there are places.
-pub no_more : (xs ys : List Name) → NoTwice xs → AllByRecursion (λ a. In a ys) xs → length xs ≤ length ys
+pub no_more : (xs ys : List Name) → NoTwice xs → All (λ a. In a ys) xs → length xs ≤ length ys
 no_more [] ys once all = omega arith
 no_more (x ∷ xs) ys once all = go (split ys x) (λ zs. no_more xs zs once.1)
   where
-    go : ((before : List Name) × ((after : List Name) × (ys ≡ before ++ x ∷ after))) ⊎ Lacks ys x → ((zs : List Name) → AllByRecursion (λ a. In a zs) xs → length xs ≤ length zs) → suc (length xs) ≤ length ys
-    go (inr lacks) rest = absurd (in_all (λ b. b ≡ x → ⊥) ys x lacks all.0 refl)
+    go : ((before : List Name) × ((after : List Name) × (ys ≡ before ++ x ∷ after))) ⊎ Lacks ys x → ((zs : List Name) → All (λ a. In a zs) xs → length xs ≤ length zs) → suc (length xs) ≤ length ys
+    go (inr lacks) rest = absurd (in_all (λ b. b ≡ x → ⊥) ys x lacks (All-head (λ a. In a ys) x xs all) refl)
     go (inl found) rest =
         let before = found.0 in
         let after = found.1.0 in
         let is = found.1.1 in
-        let few = rest (before ++ after) (elsewhere x before after ys is xs once.0 all.1) in
+        let few = rest (before ++ after) (elsewhere x before after ys is xs once.0 (All-tail (λ a. In a ys) x xs all)) in
         let n : length ys ≡ length before + suc (length after) = ap length is ∙ length-append before (x ∷ after) in
         omega (arith, few, n, length-append before after)
 
@@ -77,36 +72,36 @@ linked_ring x a (b ∷ before) z after linked = (linked.0, linked_ring x b befor
 
 -- Where each of the names is blocked by another of them, going back comes round.
 module _ (x : Trace) (left : List Name) (blocked : (b : Name) → In b left → (a : Name) × (In a left × (edge x a b ≡ true))) where
-  walk : (fuel : ℕ) (b : Name) (path : List Name) → Linked x b path → NoTwice (b ∷ path) → AllByRecursion (λ a. In a left) (b ∷ path) → length left < fuel + length (b ∷ path) → (names : List Name) × Ring x names
+  walk : (fuel : ℕ) (b : Name) (path : List Name) → Linked x b path → NoTwice (b ∷ path) → All (λ a. In a left) (b ∷ path) → length left < fuel + length (b ∷ path) → (names : List Name) × Ring x names
   walk zero b path linked once inside enough = let few = no_more (b ∷ path) left once inside in absurd (omega (arith, few, enough))
-  walk (suc fuel) b path linked once inside enough = go (blocked b inside.0) (λ a linked' once' inside'. walk fuel a (b ∷ path) linked' once' inside' (omega (arith, enough)))
+  walk (suc fuel) b path linked once inside enough = go (blocked b (All-head (λ a. In a left) b path inside)) (λ a linked' once' inside'. walk fuel a (b ∷ path) linked' once' inside' (omega (arith, enough)))
     where
-      go : (a : Name) × (In a left × (edge x a b ≡ true)) → ((a : Name) → Linked x a (b ∷ path) → NoTwice (a ∷ b ∷ path) → AllByRecursion (λ d. In d left) (a ∷ b ∷ path) → (names : List Name) × Ring x names) → (names : List Name) × Ring x names
+      go : (a : Name) × (In a left × (edge x a b ≡ true)) → ((a : Name) → Linked x a (b ∷ path) → NoTwice (a ∷ b ∷ path) → All (λ d. In d left) (a ∷ b ∷ path) → (names : List Name) × Ring x names) → (names : List Name) × Ring x names
       go (a, (there, joined)) further =
           ⊎_elim
           (λ found. (a ∷ found.0, linked_ring x a found.0 a found.1.0 (subst (Linked x a) found.1.1 (joined, linked))))
-          (λ lacks. further a (joined, linked) (lacks, once) (there, inside))
+          (λ lacks. further a (joined, linked) (lacks, once) (All-cons (λ d. In d left) a (b ∷ path) there inside))
           (split (b ∷ path) a)
 
   pub comes_round : (b : Name) → In b left → (names : List Name) × Ring x names
-  comes_round b there = walk (length left + 1) b [] tt (tt, tt) (there, tt) (omega arith)
+  comes_round b there = walk (length left + 1) b [] tt (All-nil (λ a. a ≡ b → ⊥), tt) (All-cons (λ a. In a left) b [] there (All-nil (λ a. In a left))) (omega arith)
 
 -- what blocks b among the names: one with an edge to it, or none
-blocker : (x : Trace) (names : List Name) (b : Name) → ((a : Name) × (In a names × (edge x a b ≡ true))) ⊎ AllByRecursion (λ a. edge x a b ≡ false) names
-blocker x [] b = inr tt
+blocker : (x : Trace) (names : List Name) (b : Name) → ((a : Name) × (In a names × (edge x a b ≡ true))) ⊎ All (λ a. edge x a b ≡ false) names
+blocker x [] b = inr (All-nil (λ a. edge x a b ≡ false))
 blocker x (a ∷ names) b = go (edge x a b) refl (blocker x names b)
   where
-    go : (k : Bool) → edge x a b ≡ k → ((d : Name) × (In d names × (edge x d b ≡ true))) ⊎ AllByRecursion (λ d. edge x d b ≡ false) names → ((d : Name) × (In d (a ∷ names) × (edge x d b ≡ true))) ⊎ AllByRecursion (λ d. edge x d b ≡ false) (a ∷ names)
+    go : (k : Bool) → edge x a b ≡ k → ((d : Name) × (In d names × (edge x d b ≡ true))) ⊎ All (λ d. edge x d b ≡ false) names → ((d : Name) × (In d (a ∷ names) × (edge x d b ≡ true))) ⊎ All (λ d. edge x d b ≡ false) (a ∷ names)
     go true is rest = inl (a, (inl refl, is))
     go false is (inl found) = inl (found.0, (inr found.1.0, found.1.1))
-    go false is (inr none) = inr (is, none)
+    go false is (inr none) = inr (All-cons (λ d. edge x d b ≡ false) a names is none)
 
 -- one of the candidates is free among the names, or each is blocked
-pick : (x : Trace) (names candidates : List Name) → ((b : Name) × (In b candidates × AllByRecursion (λ a. edge x a b ≡ false) names)) ⊎ ((b : Name) → In b candidates → (a : Name) × (In a names × (edge x a b ≡ true)))
+pick : (x : Trace) (names candidates : List Name) → ((b : Name) × (In b candidates × All (λ a. edge x a b ≡ false) names)) ⊎ ((b : Name) → In b candidates → (a : Name) × (In a names × (edge x a b ≡ true)))
 pick x names [] = inr (λ b there. absurd there)
 pick x names (b ∷ candidates) = go (blocker x names b) (pick x names candidates)
   where
-    go : ((a : Name) × (In a names × (edge x a b ≡ true))) ⊎ AllByRecursion (λ a. edge x a b ≡ false) names → ((d : Name) × (In d candidates × AllByRecursion (λ a. edge x a d ≡ false) names)) ⊎ ((d : Name) → In d candidates → (a : Name) × (In a names × (edge x a d ≡ true))) → ((d : Name) × (In d (b ∷ candidates) × AllByRecursion (λ a. edge x a d ≡ false) names)) ⊎ ((d : Name) → In d (b ∷ candidates) → (a : Name) × (In a names × (edge x a d ≡ true)))
+    go : ((a : Name) × (In a names × (edge x a b ≡ true))) ⊎ All (λ a. edge x a b ≡ false) names → ((d : Name) × (In d candidates × All (λ a. edge x a d ≡ false) names)) ⊎ ((d : Name) → In d candidates → (a : Name) × (In a names × (edge x a d ≡ true))) → ((d : Name) × (In d (b ∷ candidates) × All (λ a. edge x a d ≡ false) names)) ⊎ ((d : Name) → In d (b ∷ candidates) → (a : Name) × (In a names × (edge x a d ≡ true)))
     go (inr free) rest = inl (b, (inl refl, free))
     go (inl found) (inl later) = inl (later.0, (inr later.1.0, later.1.1))
     go (inl found) (inr none) = inr (λ d there. ⊎_elim (λ is. subst (λ k. (a : Name) × (In a names × (edge x a k ≡ true))) is found) (λ later. none d later) there)
@@ -140,23 +135,18 @@ others_less b (d ∷ names) there = go (same d b) refl there (others_le b names)
     go false is t few rest = ⊎_elim (λ e. absurd (true≢false (sym (same_self d b e) ∙ is))) (λ later. suc-le-suc (rest later)) t
 
 others_apart : (b : Name) (names : List Name) → Lacks (others b names) b
-others_apart b [] = tt
-others_apart b (d ∷ names) = go (same d b) refl (others_apart b names)
-  where
-    go : (k : Bool) → same d b ≡ k → Lacks (others b names) b → Lacks (cond (not k) (d ∷ others b names) (others b names)) b
-    go true is rest = rest
-    go false is rest = ((λ e. true≢false (sym (same_self d b e) ∙ is)), rest)
+others_apart b names = All-weaker (λ a. not (same a b) ≡ true) (λ a. a ≡ b → ⊥) (λ a kept is. both_ways (same a b) (not-true (same a b) kept) (same_self a b is)) (others b names) (filter_passes (λ a. not (same a b)) names)
 
 -- what sorting comes to: an order of what is left, or a ring
 abbrev pub Outcome : Trace → List Name → Type 0
-Outcome x placed = ((rest : List Name) × (InOrder x placed rest × ((a : Name) → is_action x a ≡ true → Has (placed ++ rest) a))) ⊎ ((names : List Name) × Ring x names)
+Outcome x placed = ((rest : List Name) × (InOrder x placed rest × ((a : Name) → is_action x a ≡ true → Contains (placed ++ rest) a))) ⊎ ((names : List Name) × Ring x names)
 
 module _ (x : Trace) where
   -- what is known of the names that are left: each is an action that is not placed, and every other action is placed
   pub record Left (placed left : List Name) : Type 0 where
-    pub actions : AllByRecursion (λ a. is_action x a ≡ true) left
-    pub unplaced : AllByRecursion (Lacks placed) left
-    pub cover : (a : Name) → is_action x a ≡ true → Has placed a ⊎ In a left
+    pub actions : All (λ a. is_action x a ≡ true) left
+    pub unplaced : All (Lacks placed) left
+    pub cover : (a : Name) → is_action x a ≡ true → Contains placed a ⊎ In a left
 
   -- An edge comes from an action.
   source_action : (a b : Name) → edge x a b ≡ true → is_action x a ≡ true
@@ -164,29 +154,26 @@ module _ (x : Trace) where
 
   left_less : (placed left : List Name) (b : Name) → Left placed left → In b left → Left (placed ++ b ∷ []) (others b left)
   left_less placed left b so_far there = record {
-    actions = all_kept_by (λ a. not (same a b)) (λ a. is_action x a ≡ true) left so_far.actions;
-    unplaced = both (others b left) (all_kept_by (λ a. not (same a b)) (Lacks placed) left so_far.unplaced) (others_apart b left);
+    actions = All-filter (λ a. not (same a b)) (λ a. is_action x a ≡ true) left so_far.actions;
+    unplaced = λ k d within. All-push (λ e. e ≡ get_or (others b left) k d → ⊥) placed b
+        (All-filter (λ a. not (same a b)) (Lacks placed) left so_far.unplaced k d within) (λ e. others_apart b left k d within (sym e));
     cover = λ a action. ⊎_elim
-        (λ has. inl (has_append_left placed (b ∷ []) a has))
+        (λ has. inl (Contains-append_left placed (b ∷ []) a has))
         (λ in_left'. go a in_left' (same a b) refl)
         (so_far.cover a action);
   }
     where
-      both : (ns : List Name) → AllByRecursion (Lacks placed) ns → Lacks ns b → AllByRecursion (Lacks (placed ++ b ∷ [])) ns
-      both [] lacks apart = tt
-      both (d ∷ ns) lacks apart = (All-push (λ e. e ≡ d → ⊥) placed b lacks.0 (λ e. apart.0 (sym e)), both ns lacks.1 apart.1)
-
-      go : (a : Name) → In a left → (k : Bool) → same a b ≡ k → Has (placed ++ b ∷ []) a ⊎ In a (others b left)
-      go a in_left' true is = inl (subst (Has (placed ++ b ∷ [])) (sym (same_true a b is)) (has_push placed b))
+      go : (a : Name) → In a left → (k : Bool) → same a b ≡ k → Contains (placed ++ b ∷ []) a ⊎ In a (others b left)
+      go a in_left' true is = inl (subst (Contains (placed ++ b ∷ [])) (sym (same_true a b is)) (Contains-push placed b))
       go a in_left' false is = inr (in_others b a left (λ e. true≢false (sym (same_self a b e) ∙ is)) in_left')
 
   pub sort_left : (fuel : ℕ) (placed left : List Name) → length left ≤ fuel → Left placed left → Outcome x placed
-  sort_left zero placed [] few so_far = inl ([], (tt, λ a action. ⊎_elim (λ has. has_append_left placed [] a has) (λ there. absurd there) (so_far.cover a action)))
+  sort_left zero placed [] few so_far = inl ([], (tt, λ a action. ⊎_elim (λ has. Contains-append_left placed [] a has) (λ there. absurd there) (so_far.cover a action)))
   sort_left zero placed (b ∷ left) few so_far = absurd (omega (arith, few))
-  sort_left (suc fuel) placed [] few so_far = inl ([], (tt, λ a action. ⊎_elim (λ has. has_append_left placed [] a has) (λ there. absurd there) (so_far.cover a action)))
+  sort_left (suc fuel) placed [] few so_far = inl ([], (tt, λ a action. ⊎_elim (λ has. Contains-append_left placed [] a has) (λ there. absurd there) (so_far.cover a action)))
   sort_left (suc fuel) placed (d ∷ left) few so_far = go (pick x (d ∷ left) (d ∷ left)) (λ b less. sort_left fuel (placed ++ b ∷ []) (others b (d ∷ left)) less)
     where
-      go : ((b : Name) × (In b (d ∷ left) × AllByRecursion (λ a. edge x a b ≡ false) (d ∷ left))) ⊎ ((b : Name) → In b (d ∷ left) → (a : Name) × (In a (d ∷ left) × (edge x a b ≡ true))) → ((b : Name) → length (others b (d ∷ left)) ≤ fuel → Left (placed ++ b ∷ []) (others b (d ∷ left)) → Outcome x (placed ++ b ∷ [])) → Outcome x placed
+      go : ((b : Name) × (In b (d ∷ left) × All (λ a. edge x a b ≡ false) (d ∷ left))) ⊎ ((b : Name) → In b (d ∷ left) → (a : Name) × (In a (d ∷ left) × (edge x a b ≡ true))) → ((b : Name) → length (others b (d ∷ left)) ≤ fuel → Left (placed ++ b ∷ []) (others b (d ∷ left)) → Outcome x (placed ++ b ∷ [])) → Outcome x placed
       go (inr blocked) further = inr (comes_round x (d ∷ left) blocked d (inl refl))
       go (inl (b, (there, free))) further = on (further b (let less = others_less b (d ∷ left) there in omega (arith, less, few)) (left_less placed (d ∷ left) b so_far there))
         where
@@ -196,4 +183,4 @@ module _ (x : Trace) where
           on : Outcome x (placed ++ b ∷ []) → Outcome x placed
           on (inr ring) = inr ring
           on (inl (rest, (order, all))) =
-              inl (b ∷ rest, ((in_all (λ a. is_action x a ≡ true) (d ∷ left) b so_far.actions there, in_all (Lacks placed) (d ∷ left) b so_far.unplaced there, ready, order), λ a action. subst (λ ns. Has ns a) (append_assoc placed (b ∷ []) rest) (all a action)))
+              inl (b ∷ rest, ((in_all (λ a. is_action x a ≡ true) (d ∷ left) b so_far.actions there, in_all (Lacks placed) (d ∷ left) b so_far.unplaced there, ready, order), λ a action. subst (λ ns. Contains ns a) (append_assoc placed (b ∷ []) rest) (all a action)))

@@ -1,7 +1,7 @@
 -- What holds of every ledger that accepted moves lead to, over every kind.
 use Rattle.std.proofs.Common.{◌≡◌, ℕ, ◌<◌, ◌≤◌, ◌⊎◌, List, [], ◌∷◌, ◌++◌, length, get_or, take, Some, None, Option, sym, refl, ap, ◌∙◌, subst, inl, inr, ⊎_elim, append-nil, arith}
-use Rattle.std.specs.List.{slice_get, ContainsAt as Has, AllByRecursion}
-use Rattle.std.proofs.ByRecursion.{All-append, All-weaker}
+use Rattle.std.specs.List.{slice_get, Contains, All}
+use Rattle.std.proofs.lemmas.List.Elements.{All-nil, All-cons, All-append, All-weaker}
 use Rattle.std.proofs.lemmas.List.{get_or_append_left, get_or_push, length_push, take-append-le, take_at}
 use Rattle.std.proofs.lemmas.Bool.{cases_eq, cases_lt}
 use Rattle.program.specs.declared.forms.Instruction.{Instruction}
@@ -49,12 +49,12 @@ pub record Sound (ls : List Line) (l : Ledger) : Type 0 where
   pub locals : (t : ℕ) → l.locals t ≡ local ls (l.actions t)
   pub right : (t : ℕ) → AllRight ls t (l.actions t)
   pub cells : (c : ℕ) → l.cells c ≡ held l.actions (last_of (l.drained c))
-  pub entries : (t : ℕ) → AllByRecursion (Entered l.actions t) (l.waiting t)
+  pub entries : (t : ℕ) → All (Entered l.actions t) (l.waiting t)
   pub rising : (t : ℕ) → Rising (l.waiting t)
-  pub drained : (c : ℕ) → AllByRecursion (StoreTo l.actions c) (l.drained c)
-  pub apart : (t : ℕ) → AllByRecursion (λ e. Lacks (l.drained e.store.cell) (name t e.position)) (l.waiting t)
+  pub drained : (c : ℕ) → All (StoreTo l.actions c) (l.drained c)
+  pub apart : (t : ℕ) → All (λ e. Lacks (l.drained e.store.cell) (name t e.position)) (l.waiting t)
   pub once : (c : ℕ) → NoTwice (l.drained c)
-  pub covered : (a : Name) (c : ℕ) → Exists l.actions a → (action_at l.actions a).access ≡ stores c → AtPosition a.position (l.waiting a.thread) ⊎ Has (l.drained c) a
+  pub covered : (a : Name) (c : ℕ) → Exists l.actions a → (action_at l.actions a).access ≡ stores c → AtPosition a.position (l.waiting a.thread) ⊎ Contains (l.drained c) a
   pub sources : (a : Name) (c : ℕ) (source : Source) → Exists l.actions a → (action_at l.actions a).access ≡ loads c source → SourceRight l.actions c (action_at l.actions a).value source
   pub few : how_many l ≤ 256
   pub in_range : (t : ℕ) → 8 ≤ t → l.actions t ≡ []
@@ -65,10 +65,10 @@ sound_start ls = record {
   locals = λ t. refl;
   right = λ t p within. absurd (omega (arith, within));
   cells = λ c. refl;
-  entries = λ t. tt;
+  entries = λ t. All-nil (Entered start.actions t);
   rising = λ t. tt;
-  drained = λ c. tt;
-  apart = λ t. tt;
+  drained = λ c. All-nil (StoreTo start.actions c);
+  apart = λ t. All-nil (λ e. Lacks (start.drained e.store.cell) (name t e.position));
   once = λ c. tt;
   covered = λ a c there. absurd (omega (arith, there));
   sources = λ a c source there. absurd (omega (arith, there));
@@ -164,17 +164,17 @@ module _ (ls : List Line) (l : Ledger) (sound : Sound ls l) (rules : Rules) (t n
   cells_next c = sound.cells c ∙ sym (held_next c (last_of (l.drained c)) refl)
 
   -- What holds of the new entry, if there is one, and of the old ones.
-  issued_all : (P : Entry → Type 0) → ((e : Entry) → (c : ℕ) → x.access ≡ stores c → e ≡ record { position = length (l.actions t); store = record { cell = c; value = x.value } } → P e) → AllByRecursion P (issued (length (l.actions t)) x.value x.access)
+  issued_all : (P : Entry → Type 0) → ((e : Entry) → (c : ℕ) → x.access ≡ stores c → e ≡ record { position = length (l.actions t); store = record { cell = c; value = x.value } } → P e) → All P (issued (length (l.actions t)) x.value x.access)
   issued_all P new_entry = go x.access refl
     where
-      go : (access : Access) → x.access ≡ access → AllByRecursion P (issued (length (l.actions t)) x.value access)
-      go none is = tt
-      go (stores c) is = (new_entry _ c is refl, tt)
-      go (loads c source) is = tt
+      go : (access : Access) → x.access ≡ access → All P (issued (length (l.actions t)) x.value access)
+      go none is = All-nil P
+      go (stores c) is = All-cons P _ [] (new_entry _ c is refl) (All-nil P)
+      go (loads c source) is = All-nil P
 
-  entries_next : (u : ℕ) → AllByRecursion (Entered next.actions u) (next.waiting u)
+  entries_next : (u : ℕ) → All (Entered next.actions u) (next.waiting u)
   entries_next =
-      update_all l.waiting t (l.waiting t ++ issued (length (l.actions t)) x.value x.access) (λ u. AllByRecursion (Entered next.actions u))
+      update_all l.waiting t (l.waiting t ++ issued (length (l.actions t)) x.value x.access) (λ u. All (Entered next.actions u))
       (All-append (Entered next.actions t) (l.waiting t) (issued (length (l.actions t)) x.value x.access)
       (All-weaker (Entered l.actions t) (Entered next.actions t) (λ e. stored_grown g (name t e.position) e.store.cell e.store.value) (l.waiting t) (sound.entries t))
       (issued_all (Entered next.actions t) (λ e c is e_is. subst (Entered next.actions t) (sym e_is) (record {
@@ -187,7 +187,7 @@ module _ (ls : List Line) (l : Ledger) (sound : Sound ls l) (rules : Rules) (t n
   rising_here : Rising (l.waiting t ++ issued (length (l.actions t)) x.value x.access)
   rising_here = go x.access
     where
-      below : AllByRecursion (λ e. e.position < length (l.actions t)) (l.waiting t)
+      below : All (λ e. e.position < length (l.actions t)) (l.waiting t)
       below = All-weaker (Entered l.actions t) (λ e. e.position < length (l.actions t)) (λ e s. s.exists) (l.waiting t) (sound.entries t)
 
       go : (access : Access) → Rising (l.waiting t ++ issued (length (l.actions t)) x.value access)
@@ -198,7 +198,7 @@ module _ (ls : List Line) (l : Ledger) (sound : Sound ls l) (rules : Rules) (t n
   rising_next : (u : ℕ) → Rising (next.waiting u)
   rising_next = update_all l.waiting t (l.waiting t ++ issued (length (l.actions t)) x.value x.access) (λ u. Rising) rising_here (λ u other. sound.rising u)
 
-  drained_next : (c : ℕ) → AllByRecursion (StoreTo next.actions c) (next.drained c)
+  drained_next : (c : ℕ) → All (StoreTo next.actions c) (next.drained c)
   drained_next c =
       All-weaker (StoreTo l.actions c) (StoreTo next.actions c)
       (λ a s. record { exists = g.stays a s.exists; access = ap (λ y. y.access) (g.as_was a s.exists) ∙ s.access; value = refl }) (l.drained c) (sound.drained c)
@@ -209,9 +209,9 @@ module _ (ls : List Line) (l : Ledger) (sound : Sound ls l) (rules : Rules) (t n
       All-weaker (StoreTo l.actions c) (λ b. b ≡ new l.actions t x → ⊥)
       (λ b s is. let far : length (l.actions t) < length (l.actions t) = subst (λ y. y.position < length (l.actions y.thread)) is s.exists in omega (arith, far)) (l.drained c) (sound.drained c)
 
-  apart_next : (u : ℕ) → AllByRecursion (λ e. Lacks (next.drained e.store.cell) (name u e.position)) (next.waiting u)
+  apart_next : (u : ℕ) → All (λ e. Lacks (next.drained e.store.cell) (name u e.position)) (next.waiting u)
   apart_next =
-      update_all l.waiting t (l.waiting t ++ issued (length (l.actions t)) x.value x.access) (λ u. AllByRecursion (λ e. Lacks (l.drained e.store.cell) (name u e.position)))
+      update_all l.waiting t (l.waiting t ++ issued (length (l.actions t)) x.value x.access) (λ u. All (λ e. Lacks (l.drained e.store.cell) (name u e.position)))
       (All-append (λ e. Lacks (l.drained e.store.cell) (name t e.position)) (l.waiting t) (issued (length (l.actions t)) x.value x.access) (sound.apart t)
       (issued_all (λ e. Lacks (l.drained e.store.cell) (name t e.position)) (λ e c is e_is. subst (λ f. Lacks (l.drained f.store.cell) (name t f.position)) (sym e_is) (new_undrained c))))
       (λ u other. sound.apart u)
@@ -227,7 +227,7 @@ module _ (ls : List Line) (l : Ledger) (sound : Sound ls l) (rules : Rules) (t n
       update_all l.waiting t (l.waiting t ++ issued (length (l.actions t)) x.value x.access) (λ v es. AtPosition p (l.waiting v) → AtPosition p es)
       (at_position_left p (l.waiting t) (issued (length (l.actions t)) x.value x.access)) (λ v other there. there) u
 
-  covered_next : (a : Name) (c : ℕ) → Exists next.actions a → (action_at next.actions a).access ≡ stores c → AtPosition a.position (next.waiting a.thread) ⊎ Has (next.drained c) a
+  covered_next : (a : Name) (c : ℕ) → Exists next.actions a → (action_at next.actions a).access ≡ stores c → AtPosition a.position (next.waiting a.thread) ⊎ Contains (next.drained c) a
   covered_next a c there access =
       ⊎_elim
       (λ old. ⊎_elim (λ waits. inl (old_waits a.thread a.position waits)) (λ done. inr done) (sound.covered a c old (ap (λ y. y.access) (sym (g.as_was a old)) ∙ access)))

@@ -1,7 +1,7 @@
 -- An order gives a run, one entry after another.
 use Rattle.std.proofs.Common.{◌≡◌, ℕ, ◌+◌, ◌<◌, true, cond, ltb, leb, List, [], ◌∷◌, ◌++◌, map, length, get_or, take, is_some, Some, None, sym, refl, ap, ◌∙◌, subst, ⊎_elim, arith}
-use Rattle.std.specs.List.{slice_get, ContainsAt as Has}
-use Rattle.std.proofs.ByRecursion.{has_append_left, has_push, has_push_cases}
+use Rattle.std.specs.List.{slice_get, Contains}
+use Rattle.std.proofs.lemmas.List.Elements.{Contains-append_left, Contains-push, Contains-push_cases}
 use Rattle.std.proofs.lemmas.List.{length_push, take_more}
 use Rattle.std.proofs.lemmas.Bool.{and_from, cases_eq, cases_lt, eq-eqb, leb-false, lt-ltb}
 use Rattle.refusal.specs.declared.Refusal.TheVariants.{CellOutOfRange, BufferFull}
@@ -124,20 +124,20 @@ module _ (ls : List Line) (l : Ledger) (sound : Sound ls l) (empty : NothingWait
       sym (ap (λ k. take k (l.actions t)) n ∙ one ∙ ap (λ acts. acts ++ get_or (l.actions t) (length (m.actions t)) no_action ∷ []) (sym (part.actions t)) ∙ ap (λ k. m.actions t ++ get_or (l.actions t) k no_action ∷ []) (sym next_is)))
       (λ u other. part.actions u)
 
-  is_placed1 : (y : Name) → Exists m1.actions y → Has placed' y
+  is_placed1 : (y : Name) → Exists m1.actions y → Contains placed' y
   is_placed1 y there =
-      ⊎_elim (λ old. has_append_left placed (b ∷ []) y (part.is_placed y old)) (λ is. subst (Has placed') (b_is ∙ sym is) (has_push placed b)) (old_or_new m.actions t a y there)
+      ⊎_elim (λ old. Contains-append_left placed (b ∷ []) y (part.is_placed y old)) (λ is. subst (Contains placed') (b_is ∙ sym is) (Contains-push placed b)) (old_or_new m.actions t a y there)
 
-  there1 : (y : Name) → Has placed' y → Exists m1.actions y
+  there1 : (y : Name) → Contains placed' y → Exists m1.actions y
   there1 y has =
-      ⊎_elim (λ old. (grown m.actions t a).stays y (part.there y old)) (λ is. subst (Exists m1.actions) (sym b_is ∙ is) (new_exists m.actions t a)) (has_push_cases placed b y has)
+      ⊎_elim (λ old. (grown m.actions t a).stays y (part.there y old)) (λ is. subst (Exists m1.actions) (sym b_is ∙ is) (new_exists m.actions t a)) (Contains-push_cases placed b y has)
 
-  closed1 : (y z : Name) → Has placed' z → edge (trace_of l) y z ≡ true → Has placed' y
+  closed1 : (y z : Name) → Contains placed' z → edge (trace_of l) y z ≡ true → Contains placed' y
   closed1 y z has joined =
       ⊎_elim
-      (λ old. has_append_left placed (b ∷ []) y (part.closed y z old joined))
-      (λ is. has_append_left placed (b ∷ []) y (b_ready y (subst (λ k. edge (trace_of l) y k ≡ true) (sym is) joined)))
-      (has_push_cases placed b z has)
+      (λ old. Contains-append_left placed (b ∷ []) y (part.closed y z old joined))
+      (λ is. Contains-append_left placed (b ∷ []) y (b_ready y (subst (λ k. edge (trace_of l) y k ≡ true) (sym is) joined)))
+      (Contains-push_cases placed b z has)
 
   waiting_here : m1.waiting t ≡ issued (length (m.actions t)) a.value a.access
   waiting_here = update_same m.waiting t (m.waiting t ++ issued (length (m.actions t)) a.value a.access) ∙ ap (λ es. es ++ issued (length (m.actions t)) a.value a.access) (part.empty t)

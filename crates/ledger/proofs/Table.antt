@@ -1,11 +1,12 @@
 -- The worked runs, computed.
-use Rattle.std.proofs.Common.{◌≡◌, ℕ, ◌<◌, true, false, List, [], ◌∷◌, sym, refl, ◌∙◌, subst, inl, inr, arith}
-use Rattle.std.specs.List.{AllByRecursion}
+use Rattle.std.proofs.Common.{◌≡◌, ℕ, ◌<◌, true, List, [], ◌∷◌, sym, refl, subst, inl, inr, arith}
+use Rattle.std.specs.List.{All}
+use Rattle.std.proofs.lemmas.List.Elements.{All-nil, All-cons}
 use Rattle.std.proofs.lemmas.Bool.{true≢false}
 use Rattle.program.specs.declared.lines.Line.{Line}
 use Rattle.buffers.specs.Kinds.{direct, per_cell, queue}
 use Rattle.buffers.specs.Lists.{nothing_waits}
-use Rattle.ledger.specs.Actions.{Name, name, same}
+use Rattle.ledger.specs.Actions.{Name, name}
 use Rattle.ledger.specs.Edges.{Trace, is_action}
 use Rattle.ledger.specs.Ledgers.{start}
 use Rattle.ledger.specs.Mistakes.{Mistakes}
@@ -17,10 +18,9 @@ use Rattle.ledger.specs.Verdicts.{Different, ListsRing, Lower, LowestFirst, Show
 use Rattle.ledger.specs.Worked.{WorkedRuns, dekker, early, forwarding, four, late, passing, prompt, swapped, trace_after}
 use Rattle.ledger.specs.declared.moves.Move.{Move}
 use Rattle.ledger.specs.declared.moves.Move.TheVariants.{Run, Drain}
-use Rattle.ledger.proofs.Checked.{checked_order}
+use Rattle.ledger.proofs.Checked.{checked_order, lacks_member}
 use Rattle.ledger.proofs.Draining.{sound_moves}
 use Rattle.ledger.proofs.Forward.{direct_lawful, run_gives_no_ring}
-use Rattle.ledger.proofs.Growing.{same_self}
 use Rattle.ledger.proofs.Sound.{Sound, sound_start}
 use Rattle.ledger.proofs.Timed.{nothing_waits_from}
 
@@ -30,10 +30,6 @@ sound_direct ls ms accepted = sound_moves direct direct_lawful ls ms start (soun
 -- Moves that direct accepts, and that leave nothing waiting in the lists, are a sequentially consistent run.
 computed_run : (ls : List Line) (ms : List Move) → Accepted direct ls start ms → nothing_waits (lists_in (ledger_of ls ms)) ≡ true → SequentialRun ls ms
 computed_run ls ms accepted empty = record { accepted = accepted; drained = nothing_waits_from ls (ledger_of ls ms) (sound_direct ls ms accepted) empty }
-
--- Two names that a test tells apart are not one.
-apart : {a b : Name} → same a b ≡ false → a ≡ b → ⊥
-apart {a} {b} other is = true≢false (sym (same_self a b is) ∙ other)
 
 prompt_accepted : Accepted direct dekker start prompt
 prompt_accepted = (refl, (refl, (refl, (refl, (refl, (refl, tt))))))
@@ -52,10 +48,12 @@ shows ls x (a ∷ []) ring = absurd ring
 shows ls x (a ∷ b ∷ names) ring = record { no_run = λ run. run_gives_no_ring ls x run (a ∷ b ∷ names) ring.0; ring = ring }
 
 different : Different four
-different = ((apart refl, (apart refl, (apart refl, tt))), ((apart refl, (apart refl, tt)), ((apart refl, tt), (tt, tt))))
+different = (lacks_member _ (name 0 1 ∷ name 1 0 ∷ name 1 1 ∷ []) refl, (lacks_member _ (name 1 0 ∷ name 1 1 ∷ []) refl, (lacks_member _ (name 1 1 ∷ []) refl, (lacks_member _ [] refl, tt))))
 
-lower : AllByRecursion (Lower (name 0 0)) (name 0 1 ∷ name 1 0 ∷ name 1 1 ∷ [])
-lower = (inr (refl, omega arith), (inl (omega arith), (inl (omega arith), tt)))
+lower : All (Lower (name 0 0)) (name 0 1 ∷ name 1 0 ∷ name 1 1 ∷ [])
+lower =
+    All-cons (Lower (name 0 0)) (name 0 1) (name 1 0 ∷ name 1 1 ∷ []) (inr (refl, omega arith))
+    (All-cons (Lower (name 0 0)) (name 1 0) (name 1 1 ∷ []) (inl (omega arith)) (All-cons (Lower (name 0 0)) (name 1 1) [] (inl (omega arith)) (All-nil (Lower (name 0 0)))))
 
 prompt_order : Order (trace_after queue dekker prompt) four
 prompt_order = checked_order dekker (ledger_of dekker prompt) (sound_direct dekker prompt prompt_accepted) four refl refl

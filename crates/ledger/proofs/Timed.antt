@@ -1,6 +1,7 @@
 -- A run gives no ring: over direct every edge goes forward in time.
 use Rattle.std.proofs.Common.{◌≡◌, ℕ, ◌+◌, ◌<◌, ◌≤◌, Bool, true, false, cond, eqb, List, [], ◌∷◌, ◌++◌, map, length, Some, None, Option, sym, refl, ap, ◌∙◌, subst, ⊎_elim, arith}
-use Rattle.std.specs.List.{AllByRecursion}
+use Rattle.std.specs.List.{All}
+use Rattle.std.proofs.lemmas.List.Elements.{All-nil, All-cons, All-head}
 use Rattle.std.proofs.lemmas.Bool.{and_from, and_parts, cases_lt, cond-false, cond-true, eq-eqb, true≢false}
 use Rattle.program.specs.declared.forms.Instruction.{Instruction}
 use Rattle.program.specs.declared.forms.Instruction.TheVariants.{Load, Store, Fence, Compute, Assert}
@@ -35,10 +36,10 @@ none_among l (v ∷ us) so u there =
 pub nothing_waits_from : (ls : List Line) (l : Ledger) → Sound ls l → nothing_waits (lists_in l) ≡ true → NothingWaits l
 nothing_waits_from ls l sound so u = ⊎_elim (λ small. none_among l threads so u (a_thread u small)) (λ past. go past (l.waiting u) refl (sound.entries u)) (cases_lt u 8)
   where
-    go : 8 ≤ u → (es : List Entry) → l.waiting u ≡ es → AllByRecursion (Entered l.actions u) (l.waiting u) → l.waiting u ≡ []
+    go : 8 ≤ u → (es : List Entry) → l.waiting u ≡ es → All (Entered l.actions u) (l.waiting u) → l.waiting u ≡ []
     go past [] is all = is
     go past (e ∷ es) is all =
-        let entered = (subst (AllByRecursion (Entered l.actions u)) is all).0 in
+        let entered = All-head (Entered l.actions u) e es (subst (All (Entered l.actions u)) is all) in
         let none_there : length (l.actions u) ≡ 0 = ap length (sound.in_range u past) in
         absurd (omega (arith, entered.exists, none_there))
 
@@ -46,7 +47,7 @@ nothing_waits_from ls l sound so u = ⊎_elim (λ small. none_among l threads so
 pub record Timed (l : Ledger) (time : Name → ℕ) (n : ℕ) : Type 0 where
   pub below : (a : Name) → Exists l.actions a → time a < n
   pub up : (a b : Name) → edge (trace_of l) a b ≡ true → time a < time b
-  pub last : (t : ℕ) → AllByRecursion (λ e. (a : Name) → Exists l.actions a → (a ≡ name t e.position → ⊥) → time a < time (name t e.position)) (l.waiting t)
+  pub last : (t : ℕ) → All (λ e. (a : Name) → Exists l.actions a → (a ≡ name t e.position → ⊥) → time a < time (name t e.position)) (l.waiting t)
 
 last_none : (names : List Name) → last_of names ≡ None → names ≡ []
 last_none [] is = refl
@@ -151,19 +152,19 @@ module _ (ls : List Line) (l : Ledger) (sound : Sound ls l) (empty : NothingWait
   Latest u e = (a : Name) → Exists next.actions a → (a ≡ name u e.position → ⊥) → later a < later (name u e.position)
 
   -- What waits now is the new store, if it is one.
-  last_here : AllByRecursion (Latest t) (issued (length (l.actions t)) x.value x.access)
+  last_here : All (Latest t) (issued (length (l.actions t)) x.value x.access)
   last_here = go x.access
     where
-      go : (access : Access) → AllByRecursion (Latest t) (issued (length (l.actions t)) x.value access)
-      go none = tt
-      go (stores c) = ((λ a there other. ⊎_elim (λ old. forward_new a fresh old refl) (λ is. absurd (other is)) (old_or_new l.actions t x a there)), tt)
-      go (loads c source) = tt
+      go : (access : Access) → All (Latest t) (issued (length (l.actions t)) x.value access)
+      go none = All-nil (Latest t)
+      go (stores c) = All-cons (Latest t) _ [] (λ a there other. ⊎_elim (λ old. forward_new a fresh old refl) (λ is. absurd (other is)) (old_or_new l.actions t x a there)) (All-nil (Latest t))
+      go (loads c source) = All-nil (Latest t)
 
-  last_next : (u : ℕ) → AllByRecursion (Latest u) (next.waiting u)
+  last_next : (u : ℕ) → All (Latest u) (next.waiting u)
   last_next =
-      update_all l.waiting t (l.waiting t ++ issued (length (l.actions t)) x.value x.access) (λ u. AllByRecursion (Latest u))
-      (subst (λ es. AllByRecursion (Latest t) (es ++ issued (length (l.actions t)) x.value x.access)) (sym (empty t)) last_here)
-      (λ u other. subst (AllByRecursion (Latest u)) (sym (empty u)) tt)
+      update_all l.waiting t (l.waiting t ++ issued (length (l.actions t)) x.value x.access) (λ u. All (Latest u))
+      (subst (λ es. All (Latest t) (es ++ issued (length (l.actions t)) x.value x.access)) (sym (empty t)) last_here)
+      (λ u other. subst (All (Latest u)) (sym (empty u)) (All-nil (Latest u)))
 
   -- A run over direct goes on in time.
   pub timed_run : Timed next later (n + 1)

@@ -5,7 +5,7 @@
 -- Order x names               so are all of the names, from none placed on, and every action is one of them
 -- entry_moves, listed_moves   an action as moves: its run, and directly after it the drain, if it is a store
 use Rattle.std.specs.Prelude.{◌≡◌, ℕ, true, List, [], ◌∷◌, ◌++◌, ◌≢◌}
-use Rattle.std.specs.List.{ContainsAt as Has, AllByRecursion}
+use Rattle.std.specs.List.{Contains, All}
 use Rattle.ledger.specs.Actions.{Access, Name, loads, none, stores}
 use Rattle.ledger.specs.Edges.{Trace, edge, is_action}
 use Rattle.ledger.specs.Ledgers.{action_at}
@@ -13,10 +13,10 @@ use Rattle.ledger.specs.declared.moves.Move.{Move}
 use Rattle.ledger.specs.declared.moves.Move.TheVariants.{Run, Drain}
 
 abbrev pub Lacks : List Name → Name → Type 0
-Lacks names a = AllByRecursion (λ b. b ≢ a) names
+Lacks names a = All (λ b. b ≢ a) names
 
 abbrev pub Ready : Trace → List Name → Name → Type 0
-Ready x placed b = (a : Name) → edge x a b ≡ true → Has placed a
+Ready x placed b = (a : Name) → edge x a b ≡ true → Contains placed a
 
 abbrev pub InOrder : Trace → List Name → List Name → Type 0
 InOrder x placed [] = Unit {0}
@@ -24,7 +24,7 @@ InOrder x placed (b ∷ rest) = (is_action x b ≡ true) × Lacks placed b × Re
 
 pub record Order (x : Trace) (names : List Name) : Type 0 where
   pub ordered : InOrder x [] names
-  pub all : (a : Name) → is_action x a ≡ true → Has names a
+  pub all : (a : Name) → is_action x a ≡ true → Contains names a
 
 abbrev pub drained_after : ℕ → Access → List Move
 drained_after t none = []

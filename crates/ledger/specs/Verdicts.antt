@@ -7,7 +7,7 @@
 -- ShowsRing            `violation` with this list is true: no sequentially consistent run has the trace, and the list is a ring of it
 -- Which ring it is, where there are several, is not decided here.
 use Rattle.std.specs.Prelude.{◌≡◌, ℕ, suc, ◌<◌, true, cond, ◌⊎◌, List, [], ◌∷◌, ◌++◌, ◌==◌}
-use Rattle.std.specs.List.{AllByRecursion}
+use Rattle.std.specs.List.{All}
 use Rattle.program.specs.declared.lines.Line.{Line}
 use Rattle.ledger.specs.Actions.{Name, name}
 use Rattle.ledger.specs.Edges.{Trace, is_action}
@@ -45,7 +45,7 @@ Different (a ∷ names) = Lacks names a × Different names
 abbrev pub ListsRing : Trace → List Name → Type 0
 ListsRing x [] = ⊥
 ListsRing x (a ∷ []) = ⊥
-ListsRing x (a ∷ b ∷ names) = Ring x (a ∷ b ∷ names) × Different (a ∷ b ∷ names) × AllByRecursion (Lower a) (b ∷ names)
+ListsRing x (a ∷ b ∷ names) = Ring x (a ∷ b ∷ names) × Different (a ∷ b ∷ names) × All (Lower a) (b ∷ names)
 
 pub record ShowsRing (ls : List Line) (x : Trace) (names : List Name) : Type 0 where
   pub no_run : HasRun ls x → ⊥

@@ -1,7 +1,8 @@
 -- The edges between kept actions are those of the trace of a ledger that they agree with.
 use Rattle.std.proofs.Common.{◌≡◌, ℕ, ◌<◌, Bool, true, false, ◌&&◌, ◌||◌, ltb, List, [], ◌∷◌, length, get_or, Some, sym, refl, ap, ◌∙◌, subst, ⊎_elim}
 use mathlib.Core.Path.{fun_ext}
-use Rattle.std.specs.List.{AllByRecursion}
+use Rattle.std.specs.List.{All}
+use Rattle.std.proofs.lemmas.List.Elements.{All-head, All-tail}
 use Rattle.std.proofs.lemmas.List.{get_or-map}
 use Rattle.std.proofs.lemmas.Bool.{and_from, and_parts, cond-false, cond-true, eq-eqb, eqb-true, false_from_ne_true, ltb-true, or_cases, true≢false}
 use Rattle.program.specs.declared.lines.Line.{Line}
@@ -31,12 +32,12 @@ and_same true y z alike = alike refl
 and_same false y z alike = refl
 
 -- Who stands next after another stands behind the first.
-next_behind : (P : Name → Type 0) (x : Name) (names : List Name) (a b : Name) → next_in (x ∷ names) a b ≡ true → AllByRecursion P names → P b
+next_behind : (P : Name → Type 0) (x : Name) (names : List Name) (a b : Name) → next_in (x ∷ names) a b ≡ true → All P names → P b
 next_behind P x [] a b so all = absurd (true≢false (sym so))
 next_behind P x (y ∷ names) a b so all =
     ⊎_elim
-    (λ here. subst P (same_true y b (and_parts (same x a) (same y b) here).1) all.0)
-    (λ later. next_behind P y names a b later all.1)
+    (λ here. subst P (same_true y b (and_parts (same x a) (same y b) here).1) (All-head P y names all))
+    (λ later. next_behind P y names a b later (All-tail P y names all))
     (or_cases (same x a && same y b) (next_in (y ∷ names) a b) so)
 
 -- The first stands next after none, where no name stands twice.

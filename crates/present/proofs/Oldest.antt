@@ -1,6 +1,7 @@
 -- The oldest store that kept actions leave waiting, and what drained stores overwrote: facts of lists alone.
 use Rattle.std.proofs.Common.{◌≡◌, ℕ, zero, suc, ◌+◌, ◌<◌, Bool, true, false, cond, eqb, List, [], ◌∷◌, ◌++◌, map, length, get_or, Some, None, Option, sym, refl, ap, ◌∙◌, suc-le-suc, add-zero, arith}
-use Rattle.std.proofs.lemmas.Bool.{cond-false, cond-true, eqb-true}
+use Rattle.std.proofs.lemmas.Bool.{cond-false, cond-true, eqb-true, false_from_ne_true}
+use Rattle.std.proofs.lemmas.List.Elements.{All-head, All-tail}
 use Rattle.buffers.specs.Calls.{store}
 use Rattle.buffers.specs.Lists.{oldest_to, without_oldest}
 use Rattle.ledger.specs.Actions.{Access, Name, Source, from, initial, loads, none, same, stores}
@@ -98,16 +99,12 @@ memory_source l c (a ∷ b ∷ names) = memory_source l c (b ∷ names)
 
 -- Different names are told apart.
 apart_false : (a b : Name) → (a ≡ b → ⊥) → same a b ≡ false
-apart_false a b apart = go (same a b) refl
-  where
-    go : (t : Bool) → same a b ≡ t → t ≡ false
-    go true is = absurd (apart (same_true a b is))
-    go false is = refl
+apart_false a b apart = false_from_ne_true (same a b) (λ is. apart (same_true a b is))
 
 -- A store that is drained overwrote what the list before it left in memory.
 pub overwrote_new : (before : Source) (names : List Name) (a : Name) → Lacks names a → overwrote before (names ++ a ∷ []) a ≡ Some (after_all before names)
 overwrote_new before [] a lacks = cond-true (same a a) (Some before) None (same_self a a refl)
-overwrote_new before (b ∷ names) a lacks = cond-false (same b a) (Some before) (overwrote (from b) (names ++ a ∷ []) a) (apart_false b a lacks.0) ∙ overwrote_new (from b) names a lacks.1
+overwrote_new before (b ∷ names) a lacks = cond-false (same b a) (Some before) (overwrote (from b) (names ++ a ∷ []) a) (apart_false b a (All-head (λ d. d ≡ a → ⊥) b names lacks)) ∙ overwrote_new (from b) names a (All-tail (λ d. d ≡ a → ⊥) b names lacks)
 
 -- The others overwrote what they did.
 pub overwrote_old : (before : Source) (names : List Name) (b a : Name) → (b ≡ a → ⊥) → overwrote before (names ++ b ∷ []) a ≡ overwrote before names a

@@ -2,7 +2,7 @@
 use Rattle.std.proofs.Common.{◌≡◌, ℕ, zero, suc, ◌<◌, ◌≤◌, Bool, true, false, cond, not, eqb, leb, List, [], ◌∷◌, ◌++◌, map, length, get_or, set, Some, None, Option, sym, refl, ap, ◌∙◌, subst, ⊎_elim, append-nil, zero-add, arith}
 use mathlib.Core.Path.{fun_ext}
 use Rattle.std.specs.List.{slice_get}
-use Rattle.std.proofs.ByRecursion.{All-weaker}
+use Rattle.std.proofs.lemmas.List.Elements.{All-head, All-tail, All-weaker}
 use Rattle.std.proofs.lemmas.List.{get_or_append_left, get_or_push, length-map, length_push, map_push}
 use Rattle.std.proofs.lemmas.Bool.{cases_lt, leb-false}
 use Rattle.refusal.specs.declared.Refusal.TheVariants.{ThreadOutOfRange, NoSuchInstruction, AtAnotherLabel, RunFull, ThreadNotFree, FenceBeforeDrain, CellOutOfRange, AssertFailed, BufferFull, StoreNotWaiting}
@@ -31,10 +31,10 @@ use Rattle.present.proofs.Youngest.{entries_push, left_youngest, mapped, newest_
 -- A store that the list lacks overwrote nothing.
 pub overwrote_none : (s : Source) (names : List Name) (a : Name) → Lacks names a → overwrote s names a ≡ None
 overwrote_none s [] a lacks = refl
-overwrote_none s (x ∷ names) a lacks = go (same x a) refl (overwrote_none (from x) names a lacks.1)
+overwrote_none s (x ∷ names) a lacks = go (same x a) refl (overwrote_none (from x) names a (All-tail (λ b. b ≡ a → ⊥) x names lacks))
   where
     go : (b : Bool) → same x a ≡ b → overwrote (from x) names a ≡ None → cond b (Some s) (overwrote (from x) names a) ≡ None
-    go true is later = absurd (lacks.0 (same_true x a is))
+    go true is later = absurd (All-head (λ d. d ≡ a → ⊥) x names lacks (same_true x a is))
     go false is later = later
 
 -- What F tells of a table, changed at one place, is the table of what it tells, changed there.

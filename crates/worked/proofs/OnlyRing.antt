@@ -1,6 +1,7 @@
 -- The ring of Dekker's late run is the only one.
 use Rattle.std.proofs.Common.{◌≡◌, ℕ, ◌+◌, true, ◌&&◌, List, [], ◌∷◌, sym, refl, ap, ◌∙◌, subst, ⊎_elim, arith}
-use Rattle.std.specs.List.{AllByRecursion}
+use Rattle.std.specs.List.{All}
+use Rattle.std.proofs.lemmas.List.Elements.{All-head, All-tail}
 use Rattle.std.proofs.lemmas.Bool.{and_parts, true≢false}
 use Rattle.buffers.specs.Kinds.{queue}
 use Rattle.buffers.specs.Laws.{Lawful}
@@ -98,7 +99,7 @@ module _ (queue_lawful : Lawful queue) where
   only_ring (a ∷ []) ring = absurd ring
   only_ring (a ∷ b ∷ rest) ring = from (a_corner a (and_parts (is_action x a) (is_action x b) (and_parts (is_action x a && is_action x b) _ ring.0.0).0).0)
     where
-      from_first : (rest : List Name) → a ≡ corner first → b ≡ corner second → Chained x b rest a → AllByRecursion (λ c. c ≡ a → ⊥) rest → a ∷ b ∷ rest ≡ four
+      from_first : (rest : List Name) → a ≡ corner first → b ≡ corner second → Chained x b rest a → All (λ c. c ≡ a → ⊥) rest → a ∷ b ∷ rest ≡ four
       from_first [] p q so lacks = absurd (clash p (onward second b a q so) (λ e. omega (arith, e)))
       from_first (c ∷ []) p q so lacks = absurd (clash p (onward third c a (onward second b c q so.0) so.1) (λ e. omega (arith, e)))
       from_first (c ∷ d ∷ []) p q so lacks =
@@ -109,23 +110,23 @@ module _ (queue_lawful : Lawful queue) where
           let r = onward second b c q so.0 in
           let s = onward third c d r so.1.0 in
           let t = onward fourth d e s so.1.1.0 in
-          absurd (lacks.1.1.0 (t ∙ sym p))
+          absurd (lacks 2 e (omega arith) (t ∙ sym p))
 
-      from_second : (rest : List Name) → a ≡ corner second → b ≡ corner third → Chained x b rest a → AllByRecursion (Lower a) rest → ⊥
+      from_second : (rest : List Name) → a ≡ corner second → b ≡ corner third → Chained x b rest a → All (Lower a) rest → ⊥
       from_second [] p q so lower = clash p (onward third b a q so) (λ e. omega (arith, e))
       from_second (c ∷ []) p q so lower = clash p (onward fourth c a (onward third b c q so.0) so.1) (λ e. omega (arith, e))
       from_second (c ∷ d ∷ more) p q so lower =
-          not_lower second first p (onward fourth c d (onward third b c q so.0) so.1.0) (⊎_elim (λ l. omega (arith, l)) (λ l. omega (arith, l.1))) lower.1.0
+          not_lower second first p (onward fourth c d (onward third b c q so.0) so.1.0) (⊎_elim (λ l. omega (arith, l)) (λ l. omega (arith, l.1))) (lower 1 d (omega arith))
 
-      from_third : (rest : List Name) → a ≡ corner third → b ≡ corner fourth → Chained x b rest a → AllByRecursion (Lower a) rest → ⊥
+      from_third : (rest : List Name) → a ≡ corner third → b ≡ corner fourth → Chained x b rest a → All (Lower a) rest → ⊥
       from_third [] p q so lower = clash p (onward fourth b a q so) (λ e. omega (arith, e))
-      from_third (c ∷ more) p q so lower = not_lower third first p (onward fourth b c q so.0) (⊎_elim (λ l. omega (arith, l)) (λ l. omega (arith, l.0))) lower.0
+      from_third (c ∷ more) p q so lower = not_lower third first p (onward fourth b c q so.0) (⊎_elim (λ l. omega (arith, l)) (λ l. omega (arith, l.0))) (All-head (Lower a) c more lower)
 
       by_corner : (i : Corner) → a ≡ corner i → a ∷ b ∷ rest ≡ four
-      by_corner first p = from_first rest p (onward first a b p ring.0.0) ring.0.1 ring.1.0.1
-      by_corner second p = absurd (from_second rest p (onward second a b p ring.0.0) ring.0.1 ring.2.1)
-      by_corner third p = absurd (from_third rest p (onward third a b p ring.0.0) ring.0.1 ring.2.1)
-      by_corner fourth p = absurd (not_lower fourth first p (onward fourth a b p ring.0.0) (⊎_elim (λ l. omega (arith, l)) (λ l. omega (arith, l.0))) ring.2.0)
+      by_corner first p = from_first rest p (onward first a b p ring.0.0) ring.0.1 (All-tail (λ c. c ≡ a → ⊥) b rest ring.1.0)
+      by_corner second p = absurd (from_second rest p (onward second a b p ring.0.0) ring.0.1 (All-tail (Lower a) b rest ring.2))
+      by_corner third p = absurd (from_third rest p (onward third a b p ring.0.0) ring.0.1 (All-tail (Lower a) b rest ring.2))
+      by_corner fourth p = absurd (not_lower fourth first p (onward fourth a b p ring.0.0) (⊎_elim (λ l. omega (arith, l)) (λ l. omega (arith, l.0))) (All-head (Lower a) b rest ring.2))
 
       from : ((i : Corner) × (a ≡ corner i)) → a ∷ b ∷ rest ≡ four
       from there = by_corner there.0 there.1
