@@ -1,10 +1,10 @@
 -- Reading the layout of records, and that it is read back.
 use Rattle.std.proofs.Common.{◌≡◌, ℕ, zero, suc, ◌+◌, ◌*◌, ◌/◌, ◌%◌, ◌^◌, ◌<◌, ◌≤◌, Bool, true, false, cond, ◌&&◌, eqb, leb, List, [], ◌∷◌, ◌++◌, map, length, take, drop, Some, None, Ok, Err, Option, Result, sym, refl, ap, ◌∙◌, subst, mod-eq_of_lt, arith}
 use native.Mathlib.Nat.{div-div-eq-div-mul}
-use Rattle.std.specs.List.{range_with_len, AllByRecursion}
+use Rattle.std.specs.List.{range_with_len, All}
 use Rattle.std.proofs.lemmas.Nat.{div-add-mod', div_below, div-mul-add, mod-mul-add}
 use Rattle.std.proofs.lemmas.List.FromFn.{fill_by_all}
-use Rattle.std.proofs.ByRecursion.{All-get_or}
+use Rattle.std.proofs.lemmas.List.Elements.{All-drop, All-get_or}
 use Rattle.std.proofs.lemmas.List.{drop-drop, get_or-take, length-take-le, take-append-drop}
 use Rattle.std.proofs.lemmas.Bool.{and_parts, cond-true, eqb-true, le-leb, leb-true}
 use Rattle.refusal.specs.declared.Refusal.{Refusal}
@@ -156,7 +156,7 @@ kind_from (suc (suc zero)) k p = cc
 kind_from (suc (suc (suc n))) k p = absurd cc
 
 -- A setup that is read.
-setup_from : (bs : List ℕ) (r : Record) → AllByRecursion (λ b. b < 256) bs → 4 ≤ length bs → body_at setup bs ≡ Ok r → Body setup bs r
+setup_from : (bs : List ℕ) (r : Record) → All (λ b. b < 256) bs → 4 ≤ length bs → body_at setup bs ≡ Ok r → Body setup bs r
 setup_from bs r below there p = by (eqb (byte bs 1) 0) refl p where
   under : (k : ℕ) → k < 4 → byte bs k < 256
   under k h = All-get_or (λ b. b < 256) bs k 0 (omega (arith, h, there)) below
@@ -185,7 +185,7 @@ setup_from bs r below there p = by (eqb (byte bs 1) 0) refl p where
   by false e q = refused_read RecordUnknown r q
 
 -- An instruction that is read.
-instruction_from : (bs : List ℕ) → AllByRecursion (λ b. b < 256) bs → 16 ≤ length bs → Body instruction bs (Instruction (fields_at bs))
+instruction_from : (bs : List ℕ) → All (λ b. b < 256) bs → 16 ≤ length bs → Body instruction bs (Instruction (fields_at bs))
 instruction_from bs below there = record {
   size_is = refl;
   number_is = refl;
@@ -203,7 +203,7 @@ instruction_from bs below there = record {
   b_is = four_of_long (byte bs 12) (byte bs 13) (byte bs 14) (byte bs 15) (under 12 (omega arith)) (under 13 (omega arith)) (under 14 (omega arith)) (under 15 (omega arith))
 
 -- The rest of a record that is read.
-body_from : (s : Shape) (bs : List ℕ) (r : Record) → AllByRecursion (λ b. b < 256) bs → body_size s ≤ length bs → body_at s bs ≡ Ok r → Body s bs r
+body_from : (s : Shape) (bs : List ℕ) (r : Record) → All (λ b. b < 256) bs → body_size s ≤ length bs → body_at s bs ≡ Ok r → Body s bs r
 body_from setup bs r below there p = setup_from bs r below there p
 body_from instruction bs r below there p = let same : Instruction (fields_at bs) ≡ r = cc in subst (Body instruction bs) same (instruction_from bs below there)
 body_from run bs r below there p = let same : Run (byte bs 0) (byte bs 1) ≡ r = cc in subst (Body run bs) same (record { size_is = refl; number_is = refl; bytes_are = spread 2 bs there })
@@ -224,7 +224,7 @@ read_is_layout [] r below p = refused_read RecordCutShort r p
 read_is_layout (b₀ ∷ []) r below p = refused_read RecordCutShort r p
 read_is_layout (b₀ ∷ b₁ ∷ []) r below p = refused_read RecordCutShort r p
 read_is_layout (b₀ ∷ b₁ ∷ b₂ ∷ []) r below p = refused_read RecordCutShort r p
-read_is_layout (b₀ ∷ b₁ ∷ b₂ ∷ b₃ ∷ rest) r (h₀, (h₁, (h₂, (h₃, below)))) p =
+read_is_layout (b₀ ∷ b₁ ∷ b₂ ∷ b₃ ∷ rest) r all p =
     by (shape_of (word b₀ b₁) (word b₂ b₃)) refl (let_through 4 (b₀ ∷ b₁ ∷ b₂ ∷ b₃ ∷ rest) (shaped (shape_of (word b₀ b₁) (word b₂ b₃)) rest) r p).1
   where
     Layout : Type 0
@@ -235,7 +235,8 @@ read_is_layout (b₀ ∷ b₁ ∷ b₂ ∷ b₃ ∷ rest) r (h₀, (h₁, (h₂,
     by (Some s) e q =
         let told = announced (word b₀ b₁) (word b₂ b₃) s e in
         let passed = let_through (body_size s) rest (body_at s rest) r q in
-        joined b₀ b₁ b₂ b₃ rest s r h₀ h₁ h₂ h₃ told.0 told.1 (body_from s rest r below passed.0 passed.1)
+        joined b₀ b₁ b₂ b₃ rest s r (all 0 0 (omega arith)) (all 1 0 (omega arith)) (all 2 0 (omega arith)) (all 3 0 (omega arith)) told.0 told.1
+        (body_from s rest r (All-drop (λ b. b < 256) 4 (b₀ ∷ b₁ ∷ b₂ ∷ b₃ ∷ rest) all) passed.0 passed.1)
 
 -- The layout is read back.
 pub readback : Readback

@@ -1,8 +1,9 @@
 -- How long a printed verdict and a printed fault can be.
 use Rattle.std.proofs.Common.{◌≡◌, ℕ, ◌+◌, ◌*◌, ◌^◌, ◌<◌, ◌≤◌, Bool, true, false, cond, ◌&&◌, List, [], ◌∷◌, ◌++◌, map, length, take, Some, Ok, Err, codes, decimal, sym, refl, ap, subst, inl, inr, ⊎_elim, arith}
-use Rattle.std.specs.List.{AllByRecursion}
+use Rattle.std.specs.List.{All}
 use Rattle.std.proofs.lemmas.Fmt.{length-decimal-le}
 use Rattle.std.proofs.lemmas.List.{length-append, length-map}
+use Rattle.std.proofs.lemmas.List.Elements.{All-cons, All-head, All-nil, All-tail}
 use Rattle.std.proofs.lemmas.Bool.{and_parts, cases_lt, ltb-true}
 use Rattle.refusal.specs.Refusals.{layer_of, number_of}
 use Rattle.refusal.specs.Texts.{layer_text, refusal_text}
@@ -73,27 +74,27 @@ small_action ls l sound a is =
     (in_range, omega (arith, within, own, sound.few))
 
 -- What is in order are actions.
-ordered_actions : (x : Trace) (placed rest : List Name') → InOrder x placed rest → AllByRecursion (λ a. is_action x a ≡ true) rest
-ordered_actions x placed [] order = tt
-ordered_actions x placed (b ∷ rest) order = (order.0, ordered_actions x (placed ++ b ∷ []) rest order.3)
+ordered_actions : (x : Trace) (placed rest : List Name') → InOrder x placed rest → All (λ a. is_action x a ≡ true) rest
+ordered_actions x placed [] order = All-nil (λ b. is_action x b ≡ true)
+ordered_actions x placed (b ∷ rest) order = All-cons (λ a. is_action x a ≡ true) b rest order.0 (ordered_actions x (placed ++ b ∷ []) rest order.3)
 
 -- An edge leads from an action to an action.
 edge_actions : (x : Trace) (a b : Name') → edge x a b ≡ true → (is_action x a ≡ true) × (is_action x b ≡ true)
 edge_actions x a b is = and_parts (is_action x a) (is_action x b) (and_parts (is_action x a && is_action x b) _ is).0
 
 -- What is chained are actions.
-chained_actions : (x : Trace) (a : Name') (names : List Name') (z : Name') → Chained x a names z → AllByRecursion (λ b. is_action x b ≡ true) (a ∷ names)
-chained_actions x a [] z chain = ((edge_actions x a z chain).0, tt)
-chained_actions x a (b ∷ names) z chain = ((edge_actions x a b chain.0).0, chained_actions x b names z chain.1)
+chained_actions : (x : Trace) (a : Name') (names : List Name') (z : Name') → Chained x a names z → All (λ b. is_action x b ≡ true) (a ∷ names)
+chained_actions x a [] z chain = All-cons (λ b. is_action x b ≡ true) a [] (edge_actions x a z chain).0 (All-nil (λ b. is_action x b ≡ true))
+chained_actions x a (b ∷ names) z chain = All-cons (λ b. is_action x b ≡ true) a (b ∷ names) (edge_actions x a b chain.0).0 (chained_actions x b names z chain.1)
 
 -- What is listed as a ring are actions.
-ring_actions : (x : Trace) (names : List Name') → ListsRing x names → AllByRecursion (λ b. is_action x b ≡ true) names
+ring_actions : (x : Trace) (names : List Name') → ListsRing x names → All (λ b. is_action x b ≡ true) names
 ring_actions x [] ring = absurd ring
 ring_actions x (a ∷ []) ring = absurd ring
 ring_actions x (a ∷ b ∷ names) ring = chained_actions x a (b ∷ names) a ring.0
 
 -- What a verdict lists are actions.
-listed_actions : (w : Word) (ls : List Line) (x : Trace) (names : List Name') → TrueWord w ls x names → AllByRecursion (λ b. is_action x b ≡ true) names
+listed_actions : (w : Word) (ls : List Line) (x : Trace) (names : List Name') → TrueWord w ls x names → All (λ b. is_action x b ≡ true) names
 listed_actions Sequential ls x names is = ordered_actions x [] names is.order.ordered
 listed_actions Violation ls x names is = ring_actions x names is.ring
 
@@ -105,11 +106,11 @@ short_line a small =
     simp length-append (omega (arith, thread, position))
 
 -- The lines of names that name actions are that long each.
-short_lines : (x : Trace) → ((a : Name') → is_action x a ≡ true → Small a) → (names : List Name) → AllByRecursion (λ b. is_action x b ≡ true) (map name_of names) → length (name_lines names) ≤ 6 * length names
+short_lines : (x : Trace) → ((a : Name') → is_action x a ≡ true → Small a) → (names : List Name) → All (λ b. is_action x b ≡ true) (map name_of names) → length (name_lines names) ≤ 6 * length names
 short_lines x small [] actions = omega arith
 short_lines x small (a ∷ names) actions =
-    let here : length (name_text a ++ codes "\n") ≤ 6 = short_line a (small (name_of a) actions.0) in
-    let rest : length (name_lines names) ≤ 6 * length names = short_lines x small names actions.1 in
+    let here : length (name_text a ++ codes "\n") ≤ 6 = short_line a (small (name_of a) (All-head (λ b. is_action x b ≡ true) (name_of a) (map name_of names) actions)) in
+    let rest : length (name_lines names) ≤ 6 * length names = short_lines x small names (All-tail (λ b. is_action x b ≡ true) (name_of a) (map name_of names) actions) in
     let whole : length (name_lines (a ∷ names)) ≡ length (name_text a ++ codes "\n") + length (name_lines names) = length-append (name_text a ++ codes "\n") (name_lines names) in
     omega (arith, here, rest, whole)
 

@@ -3,7 +3,7 @@
 -- ReadsBack         from the bytes of a record, with anything behind them, that record is read
 -- ReadIsLayout      bytes from which a record is read begin with the bytes of that record
 use Rattle.std.specs.Prelude.{◌≡◌, ℕ, ◌^◌, ◌<◌, List, ◌++◌, drop, Ok}
-use Rattle.std.specs.List.{AllByRecursion}
+use Rattle.std.specs.List.{All}
 use Rattle.recording.specs.Layout.{bytes_of, first_record, size}
 use Rattle.recording.specs.declared.records.Fields.{Fields}
 use Rattle.recording.specs.declared.records.Record.{Record}
@@ -31,7 +31,7 @@ abbrev pub ReadsBack : Type 0
 ReadsBack = (r : Record) (rest : List ℕ) → Fits r → first_record (bytes_of r ++ rest) ≡ Ok r
 
 abbrev pub ReadIsLayout : Type 0
-ReadIsLayout = (bs : List ℕ) (r : Record) → AllByRecursion (λ b. b < 256) bs → first_record bs ≡ Ok r → bs ≡ bytes_of r ++ drop (size r) bs
+ReadIsLayout = (bs : List ℕ) (r : Record) → All (λ b. b < 256) bs → first_record bs ≡ Ok r → bs ≡ bytes_of r ++ drop (size r) bs
 
 pub record Readback : Type 0 where
   pub reads_back : ReadsBack

@@ -19,11 +19,6 @@ const PAGE: usize = 2048;
 // the most actions that a run has
 const MOST: usize = 256;
 
-const BLANK: Name = Name {
-    thread: 0,
-    position: 0,
-};
-
 // Why nothing was printed.
 #[derive(Clone, Copy, PartialEq, Eq, Debug)]
 pub enum Unprinted {
@@ -83,7 +78,7 @@ pub fn print_recording(heap: Global, recording: &[u8], page: &mut [u8]) -> Resul
 fn text_of(heap: Global, recording: &[u8]) -> Result<String, Unprinted>
     ensures { MatchResult result (λ text. TextOf recording.now (string_bytes text)) (λ why. why ≡ NoMemory) }
 {
-    let mut list = [BLANK; MOST];
+    let mut list = [Name::default(); MOST];
     match judge_recording(heap, recording, &mut list) {
         Ok(verdict) => Ok(verdict_text(heap, verdict, &list[..verdict.entries])?),
         Err(Failure::At(fault)) => Ok(format!(in heap; "{fault}\n")?),
