@@ -19,9 +19,6 @@ use Rattle.ledger.proofs.Sound.{Sound}
 abbrev pub member : Name → List Name → Bool
 member a names = list_any (same a) names
 
-has_member : (a : Name) (names : List Name) → member a names ≡ true → Contains names a
-has_member a names so = Contains-from_any same_true a names so
-
 pub lacks_member : (a : Name) (names : List Name) → member a names ≡ false → Lacks names a
 lacks_member a names so = λ k d within is. both_ways (member a names) so (list_any_at (same a) names k d within (same_self a (get_or names k d) (sym is)))
 
@@ -45,11 +42,11 @@ module _ (x : Trace) (all : List Name) (whole : (a : Name) → is_action x a ≡
       ready : list_all (λ a. not (edge x a b) || member a placed) all ≡ true → Ready x placed b
       ready so' a joined =
           let there = whole a (and_parts (is_action x a) (is_action x b) (and_parts (is_action x a && is_action x b) _ joined).0).0 in
-          ⊎_elim (λ none. absurd (both_ways (edge x a b) (not-true (edge x a b) none) joined)) (λ in_placed. has_member a placed in_placed) (or_cases (not (edge x a b)) (member a placed) (every_in (λ d. not (edge x d b) || member d placed) all so' a there))
+          ⊎_elim (λ none. absurd (both_ways (edge x a b) (not-true (edge x a b) none) joined)) (λ in_placed. Contains-from_any same_true a placed in_placed) (or_cases (not (edge x a b)) (member a placed) (every_in (λ d. not (edge x d b) || member d placed) all so' a there))
 
 -- A list that passes the check is an order of the ledger's trace.
 pub checked_order : (ls : List Line) (l : Ledger) (sound : Sound ls l) (names : List Name) → in_order (trace_of l) (all_of l.actions threads) (in_names ls l sound) [] names ≡ true → list_all (λ a. member a names) (all_of l.actions threads) ≡ true → Order (trace_of l) names
 checked_order ls l sound names so all = record {
   ordered = checked (trace_of l) (all_of l.actions threads) (in_names ls l sound) [] names so;
-  all = λ a action. has_member a names (every_in (λ d. member d names) (all_of l.actions threads) all a (in_names ls l sound a action));
+  all = λ a action. Contains-from_any same_true a names (every_in (λ d. member d names) (all_of l.actions threads) all a (in_names ls l sound a action));
 }

@@ -1,10 +1,12 @@
 -- A trace without a ring has an order: place what is ready, until nothing is left; if something is left and nothing is
 -- ready, going back from one to what blocks it must come round.
 use Rattle.std.proofs.Common.{◌≡◌, ℕ, zero, suc, ◌+◌, ◌<◌, ◌≤◌, Bool, true, false, cond, not, ◌&&◌, ◌⊎◌, List, [], ◌∷◌, ◌++◌, length, get_or, filter, sym, refl, ap, ◌∙◌, subst, inl, inr, ⊎_elim, append_assoc, suc-le-suc, le_of_suc-le-suc, arith, length-append}
-use Rattle.std.specs.List.{Contains, All}
+use Rattle.std.specs.List.{All, Any, Contains, list_any}
 use Rattle.std.proofs.lemmas.List.Elements.{All-contains, All-nil, All-cons, All-head, All-tail, All-filter, All-push, All-weaker, filter_passes, Contains-append_cases, Contains-append_left, Contains-append_right, Contains-push}
+use Rattle.std.proofs.lemmas.List.Filters.{length-filter_both}
+use Rattle.std.proofs.lemmas.List.Folds.{Any-from_list_any, list_any_at}
 use Rattle.std.proofs.lemmas.Map.Made.{Contains-tail}
-use Rattle.std.proofs.lemmas.Bool.{and_parts, both_ways, not-true, true≢false}
+use Rattle.std.proofs.lemmas.Bool.{and_parts, both_ways, cases_Bool, false_from_ne_true, not-false, not-true, true≢false}
 use Rattle.ledger.specs.Actions.{Name, same}
 use Rattle.ledger.specs.Edges.{Trace, edge, is_action}
 use Rattle.ledger.specs.Orders.{InOrder, Lacks, Ready}
@@ -78,25 +80,23 @@ module _ (x : Trace) (left : List Name) (blocked : (b : Name) → Contains left 
   pub comes_round : (b : Name) → Contains left b → (names : List Name) × Ring x names
   comes_round b there = walk (length left + 1) b [] tt (All-nil (λ a. a ≡ b → ⊥), tt) (All-cons (Contains left) b [] there (All-nil (Contains left))) (omega arith)
 
--- what blocks b among the names: one with an edge to it, or none
-blocker : (x : Trace) (names : List Name) (b : Name) → ((a : Name) × (Contains names a × (edge x a b ≡ true))) ⊎ All (λ a. edge x a b ≡ false) names
-blocker x [] b = inr (All-nil (λ a. edge x a b ≡ false))
-blocker x (a ∷ names) b = go (edge x a b) refl (blocker x names b)
-  where
-    go : (k : Bool) → edge x a b ≡ k → ((d : Name) × (Contains names d × (edge x d b ≡ true))) ⊎ All (λ d. edge x d b ≡ false) names → ((d : Name) × (Contains (a ∷ names) d × (edge x d b ≡ true))) ⊎ All (λ d. edge x d b ≡ false) (a ∷ names)
-    go true is rest = inl (a, ((0, omega arith, refl), is))
-    go false is (inl found) = inl (found.0, (Contains-append_right (a ∷ []) names found.0 found.1.0, found.1.1))
-    go false is (inr none) = inr (All-cons (λ d. edge x d b ≡ false) a names is none)
+-- none of the names has an edge to b
+abbrev free : Trace → List Name → Name → Bool
+free x names b = not (list_any (λ a. edge x a b) names)
 
--- one of the candidates is free among the names, or each is blocked
+-- One of the candidates is free among the names, or each is blocked.
 pick : (x : Trace) (names candidates : List Name) → ((b : Name) × (Contains candidates b × All (λ a. edge x a b ≡ false) names)) ⊎ ((b : Name) → Contains candidates b → (a : Name) × (Contains names a × (edge x a b ≡ true)))
-pick x names [] = inr (λ b there. absurd (none_contained b there))
-pick x names (b ∷ candidates) = go (blocker x names b) (pick x names candidates)
+pick x names candidates = ⊎_elim (λ so. inl (found (Any-from_list_any (free x names) candidates so))) (λ so. inr (blocked so)) (cases_Bool (list_any (free x names) candidates))
   where
-    go : ((a : Name) × (Contains names a × (edge x a b ≡ true))) ⊎ All (λ a. edge x a b ≡ false) names → ((d : Name) × (Contains candidates d × All (λ a. edge x a d ≡ false) names)) ⊎ ((d : Name) → Contains candidates d → (a : Name) × (Contains names a × (edge x a d ≡ true))) → ((d : Name) × (Contains (b ∷ candidates) d × All (λ a. edge x a d ≡ false) names)) ⊎ ((d : Name) → Contains (b ∷ candidates) d → (a : Name) × (Contains names a × (edge x a d ≡ true)))
-    go (inr free) rest = inl (b, ((0, omega arith, refl), free))
-    go (inl found) (inl later) = inl (later.0, (Contains-append_right (b ∷ []) candidates later.0 later.1.0, later.1.1))
-    go (inl found) (inr none) = inr (λ d there. ⊎_elim (λ is. subst (λ k. (a : Name) × (Contains names a × (edge x a k ≡ true))) is found) (none d) (contains_cases b candidates d there))
+    found : Any (λ b. free x names b ≡ true) candidates → (b : Name) × (Contains candidates b × All (λ a. edge x a b ≡ false) names)
+    found (i, b, within, is, so) = (b, ((i, within, is), λ k d lt. false_from_ne_true (edge x (get_or names k d) b) (λ joined.
+        both_ways (list_any (λ a. edge x a b) names) (not-true (list_any (λ a. edge x a b) names) so) (list_any_at (λ a. edge x a b) names k d lt joined))))
+
+    blocked : list_any (free x names) candidates ≡ false → (b : Name) → Contains candidates b → (a : Name) × (Contains names a × (edge x a b ≡ true))
+    blocked none b (k, within, is) =
+        let not_free = false_from_ne_true (free x names b) (λ so. both_ways (list_any (free x names) candidates) none (list_any_at (free x names) candidates k b within (subst (λ d. free x names d ≡ true) (sym is) so))) in
+        let (j, a, there, at, joined) = Any-from_list_any (λ a. edge x a b) names (not-false (list_any (λ a. edge x a b) names) not_free) in
+        (a, ((j, there, at), joined))
 
 -- the others
 abbrev others : Name → List Name → List Name
@@ -111,12 +111,11 @@ in_others b a (d ∷ names) other there = go (same d b) refl (contains_cases d n
     go false is t rest = ⊎_elim (λ e. (0, omega arith, e)) (λ later. Contains-append_right (d ∷ []) (others b names) a (rest later)) t
 
 others_le : (b : Name) (names : List Name) → length (others b names) ≤ length names
-others_le b [] = omega arith
-others_le b (d ∷ names) = go (same d b) (others_le b names)
+others_le b names = let both = length-filter_both (λ a. not (same a b)) (λ a. same a b) (λ a. twice (same a b)) names in omega (arith, both)
   where
-    go : (k : Bool) → length (others b names) ≤ length names → length (cond (not k) (d ∷ others b names) (others b names)) ≤ suc (length names)
-    go true rest = omega (arith, rest)
-    go false rest = suc-le-suc rest
+    twice : (k : Bool) → k ≡ not (not k)
+    twice true = refl
+    twice false = refl
 
 others_less : (b : Name) (names : List Name) → Contains names b → length (others b names) < length names
 others_less b [] there = absurd (none_contained b there)
