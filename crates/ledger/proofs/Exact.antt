@@ -97,7 +97,7 @@ next_in_other (x ∷ y ∷ names) a once so =
     (or_cases (same x a && same y a) (next_in (y ∷ names) a a) so)
 
 no_store_loads : (c d : ℕ) (source : Source) → stores c ≡ loads d source → ⊥
-no_store_loads c d source is = let z : ◌≡◌ {A = ℕ} 0 1 = cc in omega (arith, z)
+no_store_loads c d source is = grind arith
 
 pub self_edge : (ls : List Line) (l : Ledger) → Sound ls l → (a : Name) → edge (trace_of l) a a ≡ true → ⊥
 self_edge ls l sound a joined = go (edge_parts (trace_of l) a a joined).sort (edge_parts (trace_of l) a a joined).first

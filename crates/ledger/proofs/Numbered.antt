@@ -85,11 +85,10 @@ node_lower x i j lt within = rising_at (nodes x) (name 8 0) (nodes_rise x.action
 
 -- No action is lower than itself, and of two only one is lower.
 pub lower_self : (a b : Name) → a ≡ b → Lower a b → ⊥
-lower_self a b is low = ⊎_elim (λ t. let e : a.thread ≡ b.thread = ap (λ y. y.thread) is in omega (arith, t, e)) (λ p. let e : a.position ≡ b.position = ap (λ y. y.position) is in omega (arith, p.1, e)) low
+lower_self a b is low = grind arith
 
 pub lower_both : (a b : Name) → Lower a b → Lower b a → ⊥
-lower_both a b one other =
-    ⊎_elim (λ p. ⊎_elim (λ q. omega (arith, p, q)) (λ q. omega (arith, p, q.0)) other) (λ p. ⊎_elim (λ q. omega (arith, p.0, q)) (λ q. omega (arith, p.1, q.1)) other) one
+lower_both a b one other = grind arith
 
 -- Two numbers of one action are one.
 pub one_number : (x : Trace) (i j : ℕ) → i < length (nodes x) → j < length (nodes x) → node_name x i ≡ node_name x j → i ≡ j

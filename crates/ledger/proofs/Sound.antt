@@ -244,10 +244,10 @@ module _ (ls : List Line) (l : Ledger) (sound : Sound ls l) (rules : Rules) (t n
           let source_is : (read l t (operand rs address)).source ≡ source = cc in
           subst (λ k. SourceRight l.actions k (read l t (operand rs address)).value source) c_is
           (subst (SourceRight l.actions (operand rs address) (read l t (operand rs address)).value) source_is (read_right ls l sound t (operand rs address)))
-      go (Store address value) e = let z : ◌≡◌ {A = ℕ} 0 1 = cc in absurd (omega (arith, z))
-      go Fence e = let z : ◌≡◌ {A = ℕ} 0 1 = cc in absurd (omega (arith, z))
-      go (Compute register operation a b) e = let z : ◌≡◌ {A = ℕ} 0 1 = cc in absurd (omega (arith, z))
-      go (Assert condition) e = let z : ◌≡◌ {A = ℕ} 0 1 = cc in absurd (omega (arith, z))
+      go (Store address value) e = grind arith
+      go Fence e = grind arith
+      go (Compute register operation a b) e = grind arith
+      go (Assert condition) e = grind arith
 
   sources_next : (a : Name) (c : ℕ) (source : Source) → Exists next.actions a → (action_at next.actions a).access ≡ loads c source → SourceRight next.actions c (action_at next.actions a).value source
   sources_next a c source there access =
