@@ -7,8 +7,8 @@ use Rattle.ledger.specs.Actions.{Access, Name, Source, from, initial, loads, non
 use Rattle.ledger.specs.Edges.{Trace, after_source, edge, first_in, from_reads, is_action, next_in, program_order, reads_from, store_order}
 use Rattle.ledger.specs.Ledgers.{action_at}
 use Rattle.ledger.specs.Moves.{last_of}
+use Rattle.ledger.specs.Verdicts.{Different}
 use Rattle.ledger.proofs.Growing.{Exists, same_true}
-use Rattle.ledger.proofs.Sound.{NoTwice}
 use Rattle.ledger.proofs.Waits.{last_all}
 
 -- the four sorts
@@ -71,7 +71,7 @@ after_source_one P names initial b so all = first_in_one P names b so all
 after_source_one P names (from s) b so all = (next_in_both P names s b so all).1
 
 -- Nothing stands next after the last, where no name stands twice.
-pub none_after_last : (names : List Name) (a b : Name) → NoTwice names → last_of names ≡ Some a → next_in names a b ≡ true → ⊥
+pub none_after_last : (names : List Name) (a b : Name) → Different names → last_of names ≡ Some a → next_in names a b ≡ true → ⊥
 none_after_last [] a b once last so = true≢false (sym so)
 none_after_last (x ∷ []) a b once last so = true≢false (sym so)
 none_after_last (x ∷ y ∷ names) a b once last so =

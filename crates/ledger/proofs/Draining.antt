@@ -14,13 +14,14 @@ use Rattle.ledger.specs.Runs.{Accepted}
 use Rattle.ledger.specs.Tests.{Passes, lists_in}
 use Rattle.ledger.specs.declared.moves.Move.{Move}
 use Rattle.ledger.specs.declared.moves.Move.TheVariants.{Run, Drain}
+use Rattle.ledger.specs.Verdicts.{Different}
 use Rattle.ledger.proofs.Growing.{Exists, Stored, update_all, update_other, update_same}
 use Rattle.ledger.proofs.Passing.{drain_passes, run_passes}
-use Rattle.ledger.proofs.Sound.{Entered, NoTwice, Sound, StoreTo, held, sound_run}
+use Rattle.ledger.proofs.Sound.{Entered, Sound, StoreTo, held, sound_run}
 use Rattle.ledger.proofs.Waits.{AtPosition, all_less, at_position_less, last_push, oldest_apart, oldest_of, oldest_there, rising_less, Rising}
 
 -- A name that the list lacks may be added.
-no_twice_push : (names : List Name) (a : Name) → NoTwice names → Lacks names a → NoTwice (names ++ a ∷ [])
+no_twice_push : (names : List Name) (a : Name) → Different names → Lacks names a → Different (names ++ a ∷ [])
 no_twice_push [] a once lacks = (All-nil (λ d. d ≡ a → ⊥), tt)
 no_twice_push (b ∷ names) a once lacks = (All-push (λ d. d ≡ b → ⊥) names a once.0 (λ is. All-head (λ d. d ≡ a → ⊥) b names lacks (sym is)), no_twice_push names a once.1 (All-tail (λ d. d ≡ a → ⊥) b names lacks))
 
@@ -112,7 +113,7 @@ module _ (ls : List Line) (l : Ledger) (sound : Sound ls l) (t c : ℕ) (e : Ent
     rising = update_all l.waiting t (less_oldest c (l.waiting t)) (λ u. λ es. Rising es) (rising_less c (l.waiting t) (sound.rising t)) (λ u other. sound.rising u);
     drained = drained_next;
     apart = apart_next;
-    once = update_all l.drained c (l.drained c ++ x ∷ []) (λ d. λ names. NoTwice names) (no_twice_push (l.drained c) x (sound.once c) x_lacking) (λ d other. sound.once d);
+    once = update_all l.drained c (l.drained c ++ x ∷ []) (λ d. λ names. Different names) (no_twice_push (l.drained c) x (sound.once c) x_lacking) (λ d other. sound.once d);
     covered = covered_next;
     sources = sound.sources;
     few = sound.few;

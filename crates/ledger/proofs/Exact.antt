@@ -1,7 +1,7 @@
 -- A trace has a sequentially consistent run exactly when it has no ring; and no edge joins an action to itself.
 use Rattle.std.proofs.Common.{◌≡◌, ℕ, zero, suc, ◌<◌, Bool, true, false, ◌&&◌, ◌⊎◌, List, [], ◌∷◌, ◌++◌, length, get_or, sym, refl, ap, ◌∙◌, subst, inl, inr, ⊎_elim, arith}
-use Rattle.std.specs.List.{All}
-use Rattle.std.proofs.lemmas.List.Elements.{All-nil, All-cons, All-head, All-append}
+use Rattle.std.specs.List.{All, Contains}
+use Rattle.std.proofs.lemmas.List.Elements.{All-nil, All-cons, All-head, All-append, Contains-append_left, Contains-append_right}
 use Rattle.std.proofs.lemmas.Bool.{and_parts, cases_lt, or_cases, true≢false}
 use Rattle.program.specs.declared.lines.Line.{Line}
 use Rattle.ledger.specs.Actions.{Action, Name, Source, from, loads, name, same, stores}
@@ -11,6 +11,7 @@ use Rattle.ledger.specs.Moves.{ledger_of}
 use Rattle.ledger.specs.Orders.{Order, listed_moves}
 use Rattle.ledger.specs.Tests.{threads}
 use Rattle.ledger.specs.Theorems.{HasRun, NoEdgeToItself, Ring, RunExactlyWithoutRing}
+use Rattle.ledger.specs.Verdicts.{Different}
 use Rattle.ledger.proofs.Apart.{Sort, after_source_one, edge_parts, next_in_cell, next_of_thread, overwritten_by, source_of}
 use Rattle.ledger.proofs.Counts.{Among, a_thread}
 use Rattle.ledger.proofs.Draining.{sound_moves}
@@ -18,8 +19,8 @@ use Rattle.ledger.proofs.Forward.{run_gives_no_ring}
 use Rattle.ledger.proofs.Growing.{Exists, same_true}
 use Rattle.ledger.proofs.Ordered.{order_gives_run}
 use Rattle.ledger.proofs.Replayed.{there_from, there_true}
-use Rattle.ledger.proofs.Sorting.{In, Outcome, in_left, in_right, sort_left}
-use Rattle.ledger.proofs.Sound.{NoTwice, Sound, StoreTo, sound_start}
+use Rattle.ledger.proofs.Sorting.{Outcome, sort_left}
+use Rattle.ledger.proofs.Sound.{Sound, StoreTo, sound_start}
 
 -- the first n actions of the thread t, and all actions of the threads us
 abbrev pub up_to : ℕ → ℕ → List Name
@@ -30,16 +31,16 @@ abbrev pub all_of : (ℕ → List Action) → List ℕ → List Name
 all_of acts [] = []
 all_of acts (u ∷ us) = up_to u (length (acts u)) ++ all_of acts us
 
-in_up_to : (t n p : ℕ) → p < n → In (name t p) (up_to t n)
+in_up_to : (t n p : ℕ) → p < n → Contains (up_to t n) (name t p)
 in_up_to t zero p lt = absurd (omega (arith, lt))
-in_up_to t (suc n) p lt = ⊎_elim (λ before. inr (in_up_to t n p before)) (λ past. inl (ap (name t) (omega (arith, lt, past)))) (cases_lt p n)
+in_up_to t (suc n) p lt = ⊎_elim (λ before. Contains-append_right (name t n ∷ []) (up_to t n) (name t p) (in_up_to t n p before)) (λ past. (0, omega arith, ap (name t) (let is : n ≡ p = omega (arith, lt, past) in is))) (cases_lt p n)
 
-in_all_of : (acts : ℕ → List Action) (us : List ℕ) (a : Name) → Among a.thread us → Exists acts a → In a (all_of acts us)
+in_all_of : (acts : ℕ → List Action) (us : List ℕ) (a : Name) → Among a.thread us → Exists acts a → Contains (all_of acts us) a
 in_all_of acts [] a among there = absurd among
 in_all_of acts (u ∷ us) a among there =
     ⊎_elim
-    (λ is. in_left a (up_to u (length (acts u))) (all_of acts us) (subst (λ v. In a (up_to v (length (acts v)))) (sym is) (in_up_to a.thread (length (acts a.thread)) a.position there)))
-    (λ later. in_right a (up_to u (length (acts u))) (all_of acts us) (in_all_of acts us a later there))
+    (λ is. Contains-append_left (up_to u (length (acts u))) (all_of acts us) a (subst (λ v. Contains (up_to v (length (acts v))) a) (sym is) (in_up_to a.thread (length (acts a.thread)) a.position there)))
+    (λ later. Contains-append_right (up_to u (length (acts u))) (all_of acts us) a (in_all_of acts us a later there))
     among
 
 up_to_all : (P : Name → Type 0) (t n : ℕ) → ((p : ℕ) → p < n → P (name t p)) → All P (up_to t n)
@@ -51,7 +52,7 @@ all_of_all P acts [] holds = All-nil P
 all_of_all P acts (u ∷ us) holds = All-append P (up_to u (length (acts u))) (all_of acts us) (up_to_all P u (length (acts u)) (λ p lt. holds (name u p) lt)) (all_of_all P acts us holds)
 
 -- Every action of a ledger is one of these.
-pub in_names : (ls : List Line) (l : Ledger) → Sound ls l → (a : Name) → is_action (trace_of l) a ≡ true → In a (all_of l.actions threads)
+pub in_names : (ls : List Line) (l : Ledger) → Sound ls l → (a : Name) → is_action (trace_of l) a ≡ true → Contains (all_of l.actions threads) a
 in_names ls l sound a action = in_all_of l.actions threads a (a_thread a.thread in_range) there
   where
     there : Exists l.actions a
@@ -86,7 +87,7 @@ run_exactly_without_ring rules lawful ls ms accepted empty = record {
     go none_there (inr (names, ring)) = absurd (none_there names ring)
 
 -- Who stands next after another is another, where no name stands twice.
-next_in_other : (names : List Name) (a : Name) → NoTwice names → next_in names a a ≡ true → ⊥
+next_in_other : (names : List Name) (a : Name) → Different names → next_in names a a ≡ true → ⊥
 next_in_other [] a once so = true≢false (sym so)
 next_in_other (x ∷ []) a once so = true≢false (sym so)
 next_in_other (x ∷ y ∷ names) a once so =
@@ -96,7 +97,7 @@ next_in_other (x ∷ y ∷ names) a once so =
     (or_cases (same x a && same y a) (next_in (y ∷ names) a a) so)
 
 no_store_loads : (c d : ℕ) (source : Source) → stores c ≡ loads d source → ⊥
-no_store_loads c d source is = let z : ◌≡◌ {A = ℕ} 0 1 = cc in omega (arith, z)
+no_store_loads c d source is = grind arith
 
 pub self_edge : (ls : List Line) (l : Ledger) → Sound ls l → (a : Name) → edge (trace_of l) a a ≡ true → ⊥
 self_edge ls l sound a joined = go (edge_parts (trace_of l) a a joined).sort (edge_parts (trace_of l) a a joined).first

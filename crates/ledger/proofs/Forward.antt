@@ -82,7 +82,7 @@ module _ (ls : List Line) (l : Ledger) (sound : Sound ls l) (t c : ℕ) (e : Ent
           (after_cases d source b so)
         where
           no_store_loads : (d' : ℕ) (source' : Source) → stores e.store.cell ≡ loads d' source' → ⊥
-          no_store_loads d' source' is = let z : ◌≡◌ {A = ℕ} 0 1 = cc in omega (arith, z)
+          no_store_loads d' source' is = grind arith
 
   -- A drain over direct keeps the times.
   pub timed_drain : Timed next time n

@@ -1,7 +1,8 @@
 -- The numbering of a trace's actions: every action has one number, lower actions have lower numbers.
-use Rattle.std.proofs.Common.{◌≡◌, ℕ, zero, suc, ◌+◌, ◌<◌, ◌≤◌, ◌⊎◌, List, [], ◌∷◌, ◌++◌, length, get_or, sym, refl, ap, subst, inl, inr, ⊎_elim, suc-le-suc, le_of_suc-le-suc, arith}
-use Rattle.std.specs.List.{All}
-use Rattle.std.proofs.lemmas.List.Elements.{All-nil, All-cons, All-head, All-tail, All-append, All-get_or, All-weaker}
+use Rattle.std.proofs.Common.{◌≡◌, ℕ, zero, suc, ◌+◌, ◌<◌, ◌≤◌, ◌⊎◌, List, [], ◌∷◌, ◌++◌, length, get_or, sym, refl, ap, ◌∙◌, subst, inl, inr, ⊎_elim, suc-le-suc, le_of_suc-le-suc, arith}
+use Rattle.std.specs.List.{All, Contains}
+use Rattle.std.proofs.lemmas.List.Elements.{All-nil, All-cons, All-head, All-tail, All-append, All-get_or, All-weaker, Contains-append_left, Contains-append_right}
+use Rattle.std.proofs.lemmas.List.{get_or_default}
 use Rattle.std.proofs.lemmas.Bool.{cases_lt}
 use Rattle.ledger.specs.Actions.{Action, Name, name}
 use Rattle.ledger.specs.Edges.{Trace}
@@ -10,7 +11,6 @@ use Rattle.ledger.specs.Tests.{threads}
 use Rattle.ledger.specs.Verdicts.{Lower}
 use Rattle.ledger.proofs.Counts.{Among, a_thread}
 use Rattle.ledger.proofs.Growing.{Exists}
-use Rattle.ledger.proofs.Sorting.{In, in_left, in_right}
 
 -- each comes before all that follow, by thread and then by position
 abbrev pub Rising : List Name → Type 0
@@ -30,20 +30,21 @@ run_rises : (t p n : ℕ) → Rising (run_of_names t p n)
 run_rises t p zero = tt
 run_rises t p (suc n) = (of_run (Lower (name t p)) t (suc p) n (λ q low high. inr (refl, omega (arith, low))), run_rises t (suc p) n)
 
-in_run : (t p n q : ℕ) → p ≤ q → q < p + n → In (name t q) (run_of_names t p n)
+in_run : (t p n q : ℕ) → p ≤ q → q < p + n → Contains (run_of_names t p n) (name t q)
 in_run t p zero q low high = absurd (omega (arith, low, high))
-in_run t p (suc n) q low high = ⊎_elim (λ is. inl (ap (name t) is)) (λ more. inr (in_run t (suc p) n q more (omega (arith, high)))) (first_or_later p q low)
-  where
-    first_or_later : (m k : ℕ) → m ≤ k → (m ≡ k) ⊎ (suc m ≤ k)
-    first_or_later m k le = ⊎_elim (λ lt. inr lt) (λ ge. inl (omega (arith, le, ge))) (cases_lt m k)
+in_run t p (suc n) q low high = 
+    ⊎_elim
+    (λ more. Contains-append_right (name t p ∷ []) (run_of_names t (suc p) n) (name t q) (in_run t (suc p) n q more (omega (arith, high))))
+    (λ first. (0, omega arith, ap (name t) (let is : p ≡ q = omega (arith, low, first) in is)))
+    (cases_lt p q)
 
 -- Every action has a number.
-pub in_nodes : (acts : ℕ → List Action) (ts : List ℕ) (a : Name) → Among a.thread ts → Exists acts a → In a (nodes_of acts ts)
+pub in_nodes : (acts : ℕ → List Action) (ts : List ℕ) (a : Name) → Among a.thread ts → Exists acts a → Contains (nodes_of acts ts) a
 in_nodes acts [] a among there = absurd among
 in_nodes acts (t ∷ ts) a among there =
     ⊎_elim
-    (λ is. in_left a (run_of_names t 0 (length (acts t))) (nodes_of acts ts) (subst (λ v. In a (run_of_names v 0 (length (acts v)))) (sym is) (in_run a.thread 0 (length (acts a.thread)) a.position (omega arith) (omega (arith, there)))))
-    (λ later. in_right a (run_of_names t 0 (length (acts t))) (nodes_of acts ts) (in_nodes acts ts a later there))
+    (λ is. Contains-append_left (run_of_names t 0 (length (acts t))) (nodes_of acts ts) a (subst (λ v. Contains (run_of_names v 0 (length (acts v))) a) (sym is) (in_run a.thread 0 (length (acts a.thread)) a.position (omega arith) (omega (arith, there)))))
+    (λ later. Contains-append_right (run_of_names t 0 (length (acts t))) (nodes_of acts ts) a (in_nodes acts ts a later there))
     among
 
 -- Every number is an action's.
@@ -84,11 +85,10 @@ node_lower x i j lt within = rising_at (nodes x) (name 8 0) (nodes_rise x.action
 
 -- No action is lower than itself, and of two only one is lower.
 pub lower_self : (a b : Name) → a ≡ b → Lower a b → ⊥
-lower_self a b is low = ⊎_elim (λ t. let e : a.thread ≡ b.thread = ap (λ y. y.thread) is in omega (arith, t, e)) (λ p. let e : a.position ≡ b.position = ap (λ y. y.position) is in omega (arith, p.1, e)) low
+lower_self a b is low = grind arith
 
 pub lower_both : (a b : Name) → Lower a b → Lower b a → ⊥
-lower_both a b one other =
-    ⊎_elim (λ p. ⊎_elim (λ q. omega (arith, p, q)) (λ q. omega (arith, p, q.0)) other) (λ p. ⊎_elim (λ q. omega (arith, p.0, q)) (λ q. omega (arith, p.1, q.1)) other) one
+lower_both a b one other = grind arith
 
 -- Two numbers of one action are one.
 pub one_number : (x : Trace) (i j : ℕ) → i < length (nodes x) → j < length (nodes x) → node_name x i ≡ node_name x j → i ≡ j
@@ -98,13 +98,8 @@ one_number x i j i_in j_in is =
     (λ ge. ⊎_elim (λ gt. absurd (lower_self (node_name x j) (node_name x i) (sym is) (node_lower x j i gt i_in))) (λ le. omega (arith, ge, le)) (cases_lt j i))
     (cases_lt i j)
 
--- The number of an action in a list that has it.
-in_number : (names : List Name) (a d : Name) → In a names → (k : ℕ) × (k < length names) × (get_or names k d ≡ a)
-in_number [] a d there = absurd there
-in_number (b ∷ names) a d there = ⊎_elim (λ is. (0, omega arith, is)) (λ later. let r = in_number names a d later in (suc r.0, suc-le-suc r.1, r.2)) there
-
 pub number_of : (x : Trace) (a : Name) → a.thread < 8 → Exists x.actions a → (k : ℕ) × (k < length (nodes x)) × (node_name x k ≡ a)
-number_of x a in_range there = in_number (nodes x) a (name 8 0) (in_nodes x.actions threads a (a_thread a.thread in_range) there)
+number_of x a in_range there = let r = in_nodes x.actions threads a (a_thread a.thread in_range) there in (r.0, r.1, get_or_default (nodes x) r.0 (name 8 0) a r.1 ∙ r.2)
 
 pub node_exists : (x : Trace) (k : ℕ) → k < length (nodes x) → Exists x.actions (node_name x k)
 node_exists x k within = All-get_or (Exists x.actions) (nodes x) k (name 8 0) within (nodes_exist x.actions threads)

@@ -12,11 +12,11 @@ use Rattle.ledger.specs.declared.moves.Move.TheVariants.{Run, Drain}
 
 -- A chain of tests answers none exactly where each of them is passed.
 pub guard_passed : (b : Bool) (r : Refusal) (rest : Option Refusal) → guard b r rest ≡ None → (b ≡ false) × (rest ≡ None)
-guard_passed true r rest e = let z : ◌≡◌ {A = ℕ} 0 1 = cc in absurd (omega (arith, z))
+guard_passed true r rest e = grind arith
 guard_passed false r rest e = (refl, e)
 
 pub pass_guard : (b : Bool) (r : Refusal) (rest : Option Refusal) → b ≡ false → rest ≡ None → guard b r rest ≡ None
-pass_guard true r rest b_is rest_is = let z : ◌≡◌ {A = ℕ} 0 1 = cc in absurd (omega (arith, z))
+pass_guard true r rest b_is rest_is = grind arith
 pass_guard false r rest b_is rest_is = rest_is
 
 -- what a run has passed
@@ -36,7 +36,7 @@ run_passes rules ls l t n passed =
     go (slice_get ls n) refl first.0 first.1
   where
     go : (o : Option Line) → slice_get ls n ≡ o → leb 8 t ≡ false → line_tested rules l t o ≡ None → RunPasses rules ls l t n
-    go None is small passed' = let z : ◌≡◌ {A = ℕ} 0 1 = cc in absurd (omega (arith, z))
+    go None is small passed' = grind arith
     go (Some line) is small passed' =
         let a = guard_passed (not (eqb line.thread t)) NoSuchInstruction _ passed' in
         let b = guard_passed (not (eqb line.label (l.locals t).label)) AtAnotherLabel _ a.1 in

@@ -7,8 +7,8 @@ use Rattle.ledger.specs.Actions.{Name, same}
 use Rattle.ledger.specs.Edges.{first_in, next_in}
 use Rattle.ledger.specs.Moves.{last_of}
 use Rattle.ledger.specs.Orders.{Lacks}
+use Rattle.ledger.specs.Verdicts.{Different}
 use Rattle.ledger.proofs.Growing.{same_self}
-use Rattle.ledger.proofs.Sound.{NoTwice}
 
 -- Neighbours in a list stand next to each other.
 pub next_at : (names : List Name) (q : ℕ) (d : Name) → q + 1 < length names → next_in names (get_or names q d) (get_or names (suc q) d) ≡ true
@@ -29,7 +29,7 @@ last_take (a ∷ []) (suc q) d within = absurd (not-suc-le-zero (le_of_suc-le-su
 last_take (a ∷ b ∷ names) (suc q) d within = last_take (b ∷ names) q d (le_of_suc-le-suc within)
 
 -- No name has two ranks.
-pub one_rank : (names : List Name) → NoTwice names → (i j : ℕ) (d : Name) → i < length names → j < length names → get_or names i d ≡ get_or names j d → i ≡ j
+pub one_rank : (names : List Name) → Different names → (i j : ℕ) (d : Name) → i < length names → j < length names → get_or names i d ≡ get_or names j d → i ≡ j
 one_rank [] once i j d i_in j_in is = absurd (not-suc-le-zero i_in)
 one_rank (a ∷ names) once zero zero d i_in j_in is = refl
 one_rank (a ∷ names) once zero (suc j) d i_in j_in is = absurd (All-get_or (λ b. b ≡ a → ⊥) names j d (le_of_suc-le-suc j_in) once.0 (sym is))

@@ -13,15 +13,12 @@ use Rattle.ledger.specs.Ledgers.{Entry, Ledger, action_at, no_action, operand, s
 use Rattle.ledger.specs.Moves.{act, action_of, added, asked, forwarded, in_memory, issued, last_of, ran, read, youngest}
 use Rattle.ledger.specs.Orders.{Lacks}
 use Rattle.ledger.specs.Tests.{how_many}
+use Rattle.ledger.specs.Verdicts.{Different}
 use Rattle.ledger.proofs.Growing.{Exists, Grown, Stored, grown, more_here, new, new_exists, new_is, old_or_new, stored_grown, update_all, update_other, update_same}
 use Rattle.ledger.proofs.Locals.{Right, act_line, local, local_push, moved, passes_empty}
 use Rattle.ledger.proofs.Passing.{RunPasses}
 use Rattle.ledger.proofs.Counts.{one_more}
 use Rattle.ledger.proofs.Waits.{AtPosition, Rising, at_position_last, at_position_left, last_all, rising_push, youngest_of}
-
-abbrev pub NoTwice : List Name → Type 0
-NoTwice [] = Unit {0}
-NoTwice (a ∷ names) = Lacks names a × NoTwice names
 
 -- what a cell holds after its last drained store
 abbrev pub held : (ℕ → List Action) → Option Name → ℕ
@@ -53,7 +50,7 @@ pub record Sound (ls : List Line) (l : Ledger) : Type 0 where
   pub rising : (t : ℕ) → Rising (l.waiting t)
   pub drained : (c : ℕ) → All (StoreTo l.actions c) (l.drained c)
   pub apart : (t : ℕ) → All (λ e. Lacks (l.drained e.store.cell) (name t e.position)) (l.waiting t)
-  pub once : (c : ℕ) → NoTwice (l.drained c)
+  pub once : (c : ℕ) → Different (l.drained c)
   pub covered : (a : Name) (c : ℕ) → Exists l.actions a → (action_at l.actions a).access ≡ stores c → AtPosition a.position (l.waiting a.thread) ⊎ Contains (l.drained c) a
   pub sources : (a : Name) (c : ℕ) (source : Source) → Exists l.actions a → (action_at l.actions a).access ≡ loads c source → SourceRight l.actions c (action_at l.actions a).value source
   pub few : how_many l ≤ 256
@@ -247,10 +244,10 @@ module _ (ls : List Line) (l : Ledger) (sound : Sound ls l) (rules : Rules) (t n
           let source_is : (read l t (operand rs address)).source ≡ source = cc in
           subst (λ k. SourceRight l.actions k (read l t (operand rs address)).value source) c_is
           (subst (SourceRight l.actions (operand rs address) (read l t (operand rs address)).value) source_is (read_right ls l sound t (operand rs address)))
-      go (Store address value) e = let z : ◌≡◌ {A = ℕ} 0 1 = cc in absurd (omega (arith, z))
-      go Fence e = let z : ◌≡◌ {A = ℕ} 0 1 = cc in absurd (omega (arith, z))
-      go (Compute register operation a b) e = let z : ◌≡◌ {A = ℕ} 0 1 = cc in absurd (omega (arith, z))
-      go (Assert condition) e = let z : ◌≡◌ {A = ℕ} 0 1 = cc in absurd (omega (arith, z))
+      go (Store address value) e = grind arith
+      go Fence e = grind arith
+      go (Compute register operation a b) e = grind arith
+      go (Assert condition) e = grind arith
 
   sources_next : (a : Name) (c : ℕ) (source : Source) → Exists next.actions a → (action_at next.actions a).access ≡ loads c source → SourceRight next.actions c (action_at next.actions a).value source
   sources_next a c source there access =

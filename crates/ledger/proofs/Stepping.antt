@@ -35,13 +35,13 @@ lists_empty l empty (u ∷ us) =
 
 -- A store that passes its tests is to one of the sixteen cells.
 store_cell : (rs : ℕ → ℕ) (n : ℕ) (i : Instruction) (found : Read) (c : ℕ) → form_tested rs 0 i ≡ None → (act rs n i found).access ≡ stores c → c < 16
-store_cell rs n (Load register address) found c passed is = let z : ◌≡◌ {A = ℕ} 0 1 = cc in absurd (omega (arith, z))
+store_cell rs n (Load register address) found c passed is = grind arith
 store_cell rs n (Store address value) found c passed is =
     let c_is : operand rs address ≡ c = cc in
     subst (λ k. k < 16) c_is (leb-false 16 (operand rs address) (guard_passed (leb 16 (operand rs address)) CellOutOfRange (guard (leb 16 0) BufferFull None) passed).0)
-store_cell rs n Fence found c passed is = let z : ◌≡◌ {A = ℕ} 0 1 = cc in absurd (omega (arith, z))
-store_cell rs n (Compute register operation a b) found c passed is = let z : ◌≡◌ {A = ℕ} 0 1 = cc in absurd (omega (arith, z))
-store_cell rs n (Assert condition) found c passed is = let z : ◌≡◌ {A = ℕ} 0 1 = cc in absurd (omega (arith, z))
+store_cell rs n Fence found c passed is = grind arith
+store_cell rs n (Compute register operation a b) found c passed is = grind arith
+store_cell rs n (Assert condition) found c passed is = grind arith
 
 module _ (ls : List Line) (l : Ledger) (sound : Sound ls l) (empty : NothingWaits l) (placed : List Name) (m : Ledger) (part : Part ls l placed m) (b : Name) (b_there : Exists l.actions b) (b_lacking : Lacks placed b) (b_ready : Ready (trace_of l) placed b) where
   abbrev t : ℕ

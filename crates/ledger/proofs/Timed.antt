@@ -51,8 +51,8 @@ pub record Timed (l : Ledger) (time : Name → ℕ) (n : ℕ) : Type 0 where
 
 last_none : (names : List Name) → last_of names ≡ None → names ≡ []
 last_none [] is = refl
-last_none (a ∷ []) is = let z : ◌≡◌ {A = ℕ} 0 1 = cc in absurd (omega (arith, z))
-last_none (a ∷ b ∷ names) is = let rest = last_none (b ∷ names) is in let z : ◌≡◌ {A = ℕ} 0 1 = cc in absurd (omega (arith, z))
+last_none (a ∷ []) is = grind arith
+last_none (a ∷ b ∷ names) is = let rest = last_none (b ∷ names) is in grind arith
 
 module _ (ls : List Line) (l : Ledger) (sound : Sound ls l) (empty : NothingWaits l) (t k : ℕ) (passed : RunPasses direct ls l t k) (time : Name → ℕ) (n : ℕ) (timed : Timed l time n) where
   abbrev x : Action
@@ -103,10 +103,10 @@ module _ (ls : List Line) (l : Ledger) (sound : Sound ls l) (empty : NothingWait
           let source_is : (read l t (operand rs address)).source ≡ source = cc in
           let memory : read l t (operand rs address) ≡ in_memory l (operand rs address) (last_of (l.drained (operand rs address))) = ap (λ es. forwarded t (youngest (operand rs address) es) (in_memory l (operand rs address) (last_of (l.drained (operand rs address))))) (empty t) in
           ap (λ d. (in_memory l d (last_of (l.drained d))).source) (sym c_is) ∙ ap (λ r. r.source) (sym memory) ∙ source_is
-      go (Store address value) e = let z : ◌≡◌ {A = ℕ} 0 1 = cc in absurd (omega (arith, z))
-      go Fence e = let z : ◌≡◌ {A = ℕ} 0 1 = cc in absurd (omega (arith, z))
-      go (Compute register operation y z') e = let z : ◌≡◌ {A = ℕ} 0 1 = cc in absurd (omega (arith, z))
-      go (Assert condition) e = let z : ◌≡◌ {A = ℕ} 0 1 = cc in absurd (omega (arith, z))
+      go (Store address value) e = grind arith
+      go Fence e = grind arith
+      go (Compute register operation y z') e = grind arith
+      go (Assert condition) e = grind arith
 
   not_overwritten : (c : ℕ) (source : Source) (b : Name) → x.access ≡ loads c source → after_source (l.drained c) source b ≡ true → ⊥
   not_overwritten c source b is so = go (last_of (l.drained c)) refl (subst (λ s. after_source (l.drained c) s b ≡ true) (sym (reads_last c source is)) so)

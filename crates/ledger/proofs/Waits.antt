@@ -10,7 +10,7 @@ use Rattle.ledger.specs.Moves.{last_of, less_oldest, oldest, or_else, youngest}
 
 -- The oldest entry to a cell is one of the entries, and is to that cell.
 pub oldest_of : (P : Entry → Type 0) (c : ℕ) (es : List Entry) (e : Entry) → oldest c es ≡ Some e → All P es → P e × (e.store.cell ≡ c)
-oldest_of P c [] e found all = let z : ◌≡◌ {A = ℕ} 0 1 = cc in absurd (omega (arith, z))
+oldest_of P c [] e found all = grind arith
 oldest_of P c (f ∷ es) e found all = go (eqb f.store.cell c) refl found (λ later. oldest_of P c es e later (All-tail P f es all))
   where
     go : (b : Bool) → eqb f.store.cell c ≡ b → cond b (Some f) (oldest c es) ≡ Some e → (oldest c es ≡ Some e → P e × (e.store.cell ≡ c)) → P e × (e.store.cell ≡ c)
@@ -19,13 +19,13 @@ oldest_of P c (f ∷ es) e found all = go (eqb f.store.cell c) refl found (λ la
 
 -- The youngest too.
 pub youngest_of : (P : Entry → Type 0) (c : ℕ) (es : List Entry) (e : Entry) → youngest c es ≡ Some e → All P es → P e × (e.store.cell ≡ c)
-youngest_of P c [] e found all = let z : ◌≡◌ {A = ℕ} 0 1 = cc in absurd (omega (arith, z))
+youngest_of P c [] e found all = grind arith
 youngest_of P c (f ∷ es) e found all = go (youngest c es) refl (eqb f.store.cell c) refl found (λ later. youngest_of P c es e later (All-tail P f es all))
   where
     go : (o : Option Entry) → youngest c es ≡ o → (b : Bool) → eqb f.store.cell c ≡ b → or_else o (cond b (Some f) None) ≡ Some e → (youngest c es ≡ Some e → P e × (e.store.cell ≡ c)) → P e × (e.store.cell ≡ c)
     go (Some g) is b eq found' later = later (is ∙ found')
     go None is true here found' later = let f_is : f ≡ e = cc in subst (λ g. P g × (g.store.cell ≡ c)) f_is (All-head P f es all, eqb-true f.store.cell c here)
-    go None is false other found' later = let z : ◌≡◌ {A = ℕ} 0 1 = cc in absurd (omega (arith, z))
+    go None is false other found' later = grind arith
 
 -- What holds of every entry holds of those that are left.
 pub all_less : (P : Entry → Type 0) (c : ℕ) (es : List Entry) → All P es → All P (less_oldest c es)
@@ -94,7 +94,7 @@ last_push (b ∷ d ∷ names) a = last_push (d ∷ names) a
 
 -- The last of a list is one of its names.
 pub last_all : (P : Name → Type 0) (names : List Name) (a : Name) → last_of names ≡ Some a → All P names → P a
-last_all P [] a found all = let z : ◌≡◌ {A = ℕ} 0 1 = cc in absurd (omega (arith, z))
+last_all P [] a found all = grind arith
 last_all P (b ∷ []) a found all = let b_is : b ≡ a = cc in subst P b_is (All-head P b [] all)
 last_all P (b ∷ d ∷ names) a found all = last_all P (d ∷ names) a found (All-tail P b (d ∷ names) all)
 

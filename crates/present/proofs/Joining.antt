@@ -12,9 +12,10 @@ use Rattle.ledger.specs.Ledgers.{Ledger, action_at, no_action}
 use Rattle.ledger.specs.Nodes.{node_joins, nodes, nodes_of}
 use Rattle.ledger.specs.Orders.{Lacks}
 use Rattle.ledger.specs.Tests.{threads}
+use Rattle.ledger.specs.Verdicts.{Different}
 use Rattle.ledger.proofs.Apart.{after_source_one, next_in_both}
 use Rattle.ledger.proofs.Growing.{Exists, same_true}
-use Rattle.ledger.proofs.Sound.{NoTwice, Sound, StoreTo}
+use Rattle.ledger.proofs.Sound.{Sound, StoreTo}
 use Rattle.present.proofs.Running.{kept_length}
 use Rattle.present.specs.Agreement.{Agrees, overwrote}
 use Rattle.present.specs.Data.{Held, noted_at, nothing_noted, stores_to}
@@ -46,7 +47,7 @@ first_after_none x names a b lacks first =
     false_from_ne_true (next_in (x ∷ names) a b) (λ so. next_behind (λ d. d ≡ x → ⊥) x names a b so lacks (sym (same_true x b first)))
 
 -- A store behind another in its cell's list overwrote the one that it stands next after.
-over_behind : (x : Name) (names : List Name) (a b : Name) → NoTwice (x ∷ names) → is_over (from a) (overwrote (from x) names b) ≡ next_in (x ∷ names) a b
+over_behind : (x : Name) (names : List Name) (a b : Name) → Different (x ∷ names) → is_over (from a) (overwrote (from x) names b) ≡ next_in (x ∷ names) a b
 over_behind x [] a b once = refl
 over_behind x (y ∷ names) a b once = go (same y b) refl (over_behind y names a b once.1)
   where
@@ -79,7 +80,7 @@ never_initial x (y ∷ names) b = go (same y b) refl (never_initial y names b)
     go false is rest = ap (is_over initial) (cond-false (same y b) (Some (from x)) (overwrote (from y) names b) is) ∙ rest
 
 -- What a store overwrote is the source that it stands directly after in its cell's list.
-pub over_after : (names : List Name) → NoTwice names → (s : Source) (b : Name) → is_over s (overwrote initial names b) ≡ after_source names s b
+pub over_after : (names : List Name) → Different names → (s : Source) (b : Name) → is_over s (overwrote initial names b) ≡ after_source names s b
 over_after [] once initial b = refl
 over_after [] once (from a) b = refl
 over_after (x ∷ names) once initial b = go (same x b) refl

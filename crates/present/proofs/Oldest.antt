@@ -15,7 +15,7 @@ use Rattle.present.specs.Data.{Noted, left_waiting, nothing_noted, oldest_left}
 
 -- The oldest entry to a cell is the oldest store to it.
 pub oldest_stored : (c : ℕ) (es : List Entry) (e : Entry) → oldest c es ≡ Some e → oldest_to c (map (λ f. f.store) es) ≡ Some e.store.value
-oldest_stored c [] e found = let z : ◌≡◌ {A = ℕ} 0 1 = cc in absurd (omega (arith, z))
+oldest_stored c [] e found = grind arith
 oldest_stored c (f ∷ es) e found = go (eqb f.store.cell c) found (oldest_stored c es e)
   where
     go : (b : Bool) → cond b (Some f) (oldest c es) ≡ Some e → (oldest c es ≡ Some e → oldest_to c (map (λ g. g.store) es) ≡ Some e.store.value) → cond b (Some f.store.value) (oldest_to c (map (λ g. g.store) es)) ≡ Some e.store.value
@@ -57,7 +57,7 @@ found_later i c x xs e other less f = record {
 
 -- The oldest entry to a cell is that of a kept action.
 pub found : (i c : ℕ) (xs : List Noted) (e : Entry) → oldest c (entries i xs) ≡ Some e → Found i c xs e
-found i c [] e is = let z : ◌≡◌ {A = ℕ} 0 1 = cc in absurd (omega (arith, z))
+found i c [] e is = grind arith
 found i c (x ∷ xs) e is = go x.action.line x.action.value x.action.access x.over is (found (i + 1) c xs e)
   where
     stored : (n v d : ℕ) (b : Bool) → eqb d c ≡ b → cond b (Some (record { position = i; store = store d v })) (oldest c (entries (i + 1) xs)) ≡ Some e → (oldest c (entries (i + 1) xs) ≡ Some e → Found (i + 1) c xs e) → Found i c (kept n v (stores d) None ∷ xs) e

@@ -2,6 +2,7 @@
 use Rattle.std.proofs.Common.{◌≡◌, ℕ, zero, suc, ◌<◌, ◌≤◌, Bool, true, false, cond, not, eqb, leb, List, [], ◌∷◌, ◌++◌, map, length, get_or, set, Some, None, Option, sym, refl, ap, ◌∙◌, subst, ⊎_elim, append-nil, zero-add, arith}
 use mathlib.Core.Path.{fun_ext}
 use Rattle.std.specs.List.{slice_get}
+use Rattle.std.specs.Option.{option_map}
 use Rattle.std.proofs.lemmas.List.Elements.{All-head, All-tail, All-weaker}
 use Rattle.std.proofs.lemmas.List.{get_or_append_left, get_or_push, length-map, length_push, map_push}
 use Rattle.std.proofs.lemmas.Bool.{cases_lt, leb-false}
@@ -26,7 +27,7 @@ use Rattle.ledger.proofs.Waits.{last_all}
 use Rattle.present.specs.Agreement.{Agrees, entries, overwrote}
 use Rattle.present.specs.Calls.{action_held, after_move_held, after_run_held, answer_held, form_tested_held, found_in, line_tested_held, put_in, ran_with, run_value_held, tested_held, told, unknown}
 use Rattle.present.specs.Data.{Held, Noted, actions_in, how_many_in, nothing_noted, waiting_of, youngest_left}
-use Rattle.present.proofs.Youngest.{entries_push, left_youngest, mapped, newest_youngest}
+use Rattle.present.proofs.Youngest.{entries_push, left_youngest, newest_youngest}
 
 -- A store that the list lacks overwrote nothing.
 pub overwrote_none : (s : Source) (names : List Name) (a : Name) → Lacks names a → overwrote s names a ≡ None
@@ -66,12 +67,12 @@ lists_update w (suc (suc (suc (suc (suc (suc (suc zero))))))) es lt = refl
 lists_update w (suc (suc (suc (suc (suc (suc (suc (suc t)))))))) es lt = absurd (omega (arith, lt))
 
 -- What the buffer tells of a store and the position that is left waiting, told of one entry, are what is forwarded.
-told_forwarded : (t : ℕ) (o : Option Entry) (memory : Read) → told t (mapped (λ e. e.store.value) o) (mapped (λ e. e.position) o) memory ≡ forwarded t o memory
+told_forwarded : (t : ℕ) (o : Option Entry) (memory : Read) → told t (option_map (λ e. e.store.value) o) (option_map (λ e. e.position) o) memory ≡ forwarded t o memory
 told_forwarded t None memory = refl
 told_forwarded t (Some e) memory = refl
 
 -- Told of one entry, they are never at odds.
-known : (o : Option Entry) → unknown (mapped (λ e. e.store.value) o) (mapped (λ e. e.position) o) ≡ false
+known : (o : Option Entry) → unknown (option_map (λ e. e.store.value) o) (option_map (λ e. e.position) o) ≡ false
 known None = refl
 known (Some e) = refl
 
@@ -94,12 +95,12 @@ module _ (l : Ledger) (h : Held) (agrees : Agrees l h) where
     waiting_length = ap length kept_waiting ∙ length-map (l.waiting t) (λ e. e.store)
 
     -- The buffer tells the value of the ledger's youngest entry.
-    newest_kept : (c : ℕ) → newest_to c (waiting_of h t) ≡ mapped (λ e. e.store.value) (youngest c (l.waiting t))
+    newest_kept : (c : ℕ) → newest_to c (waiting_of h t) ≡ option_map (λ e. e.store.value) (youngest c (l.waiting t))
     newest_kept c = ap (newest_to c) kept_waiting ∙ newest_youngest c (l.waiting t)
 
     -- The youngest action left waiting is that of the ledger's youngest entry.
-    left_kept : (c : ℕ) → youngest_left 0 c (h.own.noted t) ≡ mapped (λ e. e.position) (youngest c (l.waiting t))
-    left_kept c = left_youngest 0 c (h.own.noted t) ∙ ap (λ es. mapped (λ e. e.position) (youngest c es)) (agrees.waiting t)
+    left_kept : (c : ℕ) → youngest_left 0 c (h.own.noted t) ≡ option_map (λ e. e.position) (youngest c (l.waiting t))
+    left_kept c = left_youngest 0 c (h.own.noted t) ∙ ap (λ es. option_map (λ e. e.position) (youngest c es)) (agrees.waiting t)
 
     -- A load finds what the ledger says.
     pub found_read : (c : ℕ) → found_in h t c ≡ read l t c

@@ -1,6 +1,6 @@
 -- The ring of Dekker's late run is the only one.
-use Rattle.std.proofs.Common.{◌≡◌, ℕ, ◌+◌, true, ◌&&◌, List, [], ◌∷◌, sym, refl, ap, ◌∙◌, subst, ⊎_elim, arith}
-use Rattle.std.specs.List.{All}
+use Rattle.std.proofs.Common.{◌≡◌, ℕ, zero, suc, ◌+◌, true, ◌&&◌, List, [], ◌∷◌, sym, refl, ap, ◌∙◌, subst, ⊎_elim, arith}
+use Rattle.std.specs.List.{All, Contains}
 use Rattle.std.proofs.lemmas.List.Elements.{All-head, All-tail}
 use Rattle.std.proofs.lemmas.Bool.{and_parts, true≢false}
 use Rattle.buffers.specs.Kinds.{queue}
@@ -15,7 +15,6 @@ use Rattle.ledger.specs.Verdicts.{ListsRing, Lower}
 use Rattle.ledger.specs.Worked.{dekker, four, late}
 use Rattle.ledger.proofs.Draining.{sound_moves}
 use Rattle.ledger.proofs.Exact.{in_names}
-use Rattle.ledger.proofs.Sorting.{In}
 use Rattle.ledger.proofs.Sound.{Sound, sound_start}
 
 abbrev pub x : Trace
@@ -55,9 +54,12 @@ module _ (queue_lawful : Lawful queue) where
   a_corner : (a : Name) → is_action x a ≡ true → (i : Corner) × (a ≡ corner i)
   a_corner a action = which (in_names dekker (ledger_of dekker late) sound a action)
     where
-      which : In a (name 0 1 ∷ name 0 0 ∷ name 1 1 ∷ name 1 0 ∷ []) → (i : Corner) × (a ≡ corner i)
-      which =
-          ⊎_elim (λ is. (second, sym is)) (⊎_elim (λ is. (first, sym is)) (⊎_elim (λ is. (fourth, sym is)) (⊎_elim (λ is. (third, sym is)) (λ none. absurd none))))
+      which : Contains (name 0 1 ∷ name 0 0 ∷ name 1 1 ∷ name 1 0 ∷ []) a → (i : Corner) × (a ≡ corner i)
+      which (zero, within, is) = (second, sym is)
+      which (suc zero, within, is) = (first, sym is)
+      which (suc (suc zero), within, is) = (fourth, sym is)
+      which (suc (suc (suc zero)), within, is) = (third, sym is)
+      which (suc (suc (suc (suc k))), within, is) = absurd (omega (arith, within))
 
   -- The only edge out of each leads to the next.
   only_edge : (i j : Corner) → edge x (corner i) (corner j) ≡ true → j ≡ next i
