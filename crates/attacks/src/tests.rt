@@ -12,6 +12,7 @@ fn pair(store: usize, load: usize) -> Pair {
     Pair { store, load }
 }
 
+// Short forms, as the programs above have them: this crate stands below theirs.
 fn store(cell: u32) -> Instruction {
     Instruction::Store {
         address: Operand::Constant(cell),

@@ -12,7 +12,8 @@ pub trait StoreBuffer {
     // What waits: a list for each thread, oldest first.
     ghost lists: { Self → Lists };
 
-    // What the lists let happen. It holds what was chosen when the buffer was made, and no call changes it.
+    // What the lists let happen. It holds what was chosen when the buffer was made, and no call changes it. Each call that changes a
+    // buffer says so, since no type can say that something is as before.
     ghost rules: { Self → Rules };
 
     // Puts a store at the end of the thread's list. Refused for a thread above 7, then for a cell above 15, then where 16

@@ -11,7 +11,7 @@ use replay::{Answer, Call, perform};
 use std::alloc::Global;
 use std::array;
 
-// A program of these lines.
+// A program of these lines. It is made, and pairs are shown, nearly as in the program `pairs`: a crate for two short functions would be no plainer.
 fn program_of(rt: &HostRuntime, heap: Global, lines: &[Line]) -> anyhow::Result<Program> {
     let mut program = Program::new(heap)?;
     for line in lines {

@@ -1,7 +1,7 @@
 // The programs of the worked runs.
 use program::{Instruction, Line, Operand, Operation};
 
-// Stores a number to a cell.
+// Stores a number to a cell. The programs of samples and tests each have such short forms of their own: a crate for them would be no plainer.
 fn store(cell: u32, value: u32) -> Instruction {
     Instruction::Store {
         address: Operand::Constant(cell),

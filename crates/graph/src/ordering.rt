@@ -116,6 +116,7 @@ impl Sorting {
         ensures placed { marks self.new.standings.items ≡ marks self.old.standings.items }
         ensures blocked { Blocked (G.Graph.joins graph.now) (G.Graph.size graph.now) self.new.standings.items }
     {
+        // By number: while a node moves, the graph and the standings of the others are asked.
         for node in 0..graph.nodes() {
             if self.standings[node] == Standing::Behind(at) {
                 self.standings[node] = self.standing_from(graph, at, node);
@@ -216,6 +217,7 @@ impl Stuck {
         ensures later { drop ring.count list.new ≡ drop ring.count list.old }
     {
         let mut node = ring.lowest;
+        // By place: after `iter_mut` of a slice a proof knows no element.
         for place in (0..ring.count).rev() {
             node = self.blocker(node);
             list[place] = node;

@@ -15,6 +15,7 @@ pub fn reached<G: Graph>(graph: &G, start: usize) -> [bool; 256]
     let mut todo = ArrayVec::<usize, 256>::new();
     todo.push(start);
     while let Some(from) = todo.pop() {
+        // The graph has numbers of nodes, and no list of them.
         for to in 0..graph.nodes() {
             if !marks[to] && graph.edge(from, to) {
                 marks[to] = true;

@@ -2,6 +2,7 @@
 use program::{Instruction, Line, Operand, Operation};
 use std::array;
 
+// Short forms, as in the program of the worked runs: a crate for the two would be no plainer.
 fn store(cell: u32, value: Operand) -> Instruction {
     Instruction::Store {
         address: Operand::Constant(cell),

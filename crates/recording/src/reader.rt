@@ -42,7 +42,7 @@ impl<'a> Reader<'a> {
         Ok(Some(found))
     }
 
-    // Goes past the record here.
+    // Goes past the record here. That the recording stays is said at each call that reads on, since no type can say it.
     pub(super) fn pass(&mut self, passed: Record)
         requires { self.old.place.byte + record_size passed ≤ length self.old.recording.now }
         ensures recording { self.new.recording.now ≡ self.old.recording.now }

@@ -12,7 +12,7 @@ use super::verdicts::{Verdict, Word};
 use graph::{Written, order_or_ring};
 use refusal::Refusal;
 
-// Writes the names of these numbers at the front of the list.
+// Writes the names of these numbers at the front of the list, place by place: after `iter_mut` of a slice a proof knows no element.
 fn write(names: &[Name], numbers: &[usize], list: &mut [Name])
     requires below { (k : ℕ) → k < length numbers.now → slice_index numbers.now k < length names.now }
     requires room { length numbers.now ≤ length list.old }
