@@ -1,5 +1,5 @@
 -- The edges between kept actions are those of the trace of a ledger that they agree with.
-use Rattle.std.proofs.Common.{◌≡◌, ℕ, ◌<◌, Bool, true, false, ◌&&◌, ◌||◌, ltb, List, [], ◌∷◌, length, get_or, Some, sym, refl, ap, ◌∙◌, subst, ⊎_elim}
+use Rattle.std.proofs.Common.{◌≡◌, ℕ, ◌<◌, Bool, true, false, ◌&&◌, ◌||◌, ltb, List, [], ◌∷◌, length, get_or, Some, sym, refl, ap, ◌∙◌, subst, ⊎_elim, arith}
 use mathlib.Core.Path.{fun_ext}
 use Rattle.std.specs.List.{All}
 use Rattle.std.proofs.lemmas.List.Elements.{All-head, All-tail}
@@ -23,14 +23,11 @@ use Rattle.present.specs.Joins.{is_noted, is_over, joined_by, joined_in, node_jo
 
 -- Two tests are the same where each holds if the other does.
 bool_same : (x y : Bool) → (x ≡ true → y ≡ true) → (y ≡ true → x ≡ true) → x ≡ y
-bool_same true y to back = sym (to refl)
-bool_same false true to back = back refl
-bool_same false false to back = refl
+bool_same x y to back = grind (arith, to, back)
 
 -- Behind a test, only where it holds need two tests be the same.
 and_same : (x y z : Bool) → (x ≡ true → y ≡ z) → (x && y) ≡ (x && z)
-and_same true y z alike = alike refl
-and_same false y z alike = refl
+and_same x y z alike = grind (arith, alike)
 
 -- Who stands next after another stands behind the first.
 next_behind : (P : Name → Type 0) (x : Name) (names : List Name) (a b : Name) → next_in (x ∷ names) a b ≡ true → All P names → P b
@@ -52,12 +49,10 @@ over_behind x [] a b once = refl
 over_behind x (y ∷ names) a b once = go (same y b) refl (over_behind y names a b once.1)
   where
     both : (p q : Bool) → q ≡ false → p ≡ ((p && true) || q)
-    both true q is = refl
-    both false q is = sym is
+    both p q is = grind arith
 
     neither : (p q : Bool) → q ≡ ((p && false) || q)
-    neither true q = refl
-    neither false q = refl
+    neither p q = grind arith
 
     go : (s : Bool) → same y b ≡ s → is_over (from a) (overwrote (from y) names b) ≡ next_in (y ∷ names) a b → is_over (from a) (overwrote (from x) (y ∷ names) b) ≡ next_in (x ∷ y ∷ names) a b
     go true is rest =
