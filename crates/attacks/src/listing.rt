@@ -25,6 +25,7 @@ pub fn write_pairs(table: &Table, list: &mut [Pair])
     let pairs = marks
         .filter(|(_, marked)| **marked)
         .map(|(place, _)| pair_at(place));
+    // By place: after `iter_mut` of a slice a proof knows no element.
     for (at, pair) in pairs.enumerate() {
         list[at] = pair;
     }
