@@ -32,7 +32,7 @@ pub enum Failure {
 }
 
 impl Fault {
-    // The number of its refusal.
+    // The number of its refusal, by a call as there.
     pub fn number(self) -> u8
         ensures { result ≡ number_of self.refusal }
     {

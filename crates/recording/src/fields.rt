@@ -8,7 +8,7 @@ use super::records::Fields;
 use program::{Instruction, Line, Operand, Operation};
 use refusal::Refusal;
 
-// The operand of a tag: 0 for one of the eight registers, 1 for a constant.
+// The operand of a tag: 0 for one of the eight registers, 1 for a constant. A conversion would be from a pair, which is no plainer.
 fn operand(tag: u8, value: u32) -> Option<Operand>
     ensures { result ≡ operand_at tag value }
 {

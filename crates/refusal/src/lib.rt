@@ -60,7 +60,7 @@ pub enum Layer {
 }
 
 impl Refusal {
-    // The number by which this refusal is reported, 1 to 18.
+    // The number by which this refusal is reported, 1 to 18. A call and no conversion, whose result would not say what it counts.
     pub fn number(self) -> u8
         ensures { result ≡ number_of self }
     {

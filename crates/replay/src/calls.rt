@@ -28,7 +28,7 @@ pub enum Answer {
 }
 
 impl Answer {
-    // The number by which the answer is reported: a refusal's own, and 0 for all that was not refused.
+    // The number by which the answer is reported: a refusal's own, and 0 for all that was not refused. A call, as a refusal's number is.
     pub fn number(&self) -> u8
         ensures { result ≡ answer_number self.now }
     {
