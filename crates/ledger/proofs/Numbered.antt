@@ -32,7 +32,7 @@ run_rises t p (suc n) = (of_run (Lower (name t p)) t (suc p) n (λ q low high. i
 
 in_run : (t p n q : ℕ) → p ≤ q → q < p + n → Contains (run_of_names t p n) (name t q)
 in_run t p zero q low high = absurd (omega (arith, low, high))
-in_run t p (suc n) q low high = 
+in_run t p (suc n) q low high =
     ⊎_elim
     (λ more. Contains-append_right (name t p ∷ []) (run_of_names t (suc p) n) (name t q) (in_run t (suc p) n q more (omega (arith, high))))
     (λ first. (0, omega arith, ap (name t) (let is : p ≡ q = omega (arith, low, first) in is)))

@@ -89,8 +89,14 @@ pick : (x : Trace) (names candidates : List Name) → ((b : Name) × (Contains c
 pick x names candidates = ⊎_elim (λ so. inl (found (Any-from_list_any (free x names) candidates so))) (λ so. inr (blocked so)) (cases_Bool (list_any (free x names) candidates))
   where
     found : Any (λ b. free x names b ≡ true) candidates → (b : Name) × (Contains candidates b × All (λ a. edge x a b ≡ false) names)
-    found (i, b, within, is, so) = (b, ((i, within, is), λ k d lt. false_from_ne_true (edge x (get_or names k d) b) (λ joined.
-        both_ways (list_any (λ a. edge x a b) names) (not-true (list_any (λ a. edge x a b) names) so) (list_any_at (λ a. edge x a b) names k d lt joined))))
+    found (i, b, within, is, so) = (
+      b,
+      (
+        (i, within, is),
+        λ k d lt. false_from_ne_true (edge x (get_or names k d) b) (λ joined.
+            both_ways (list_any (λ a. edge x a b) names) (not-true (list_any (λ a. edge x a b) names) so) (list_any_at (λ a. edge x a b) names k d lt joined)),
+      ),
+    )
 
     blocked : list_any (free x names) candidates ≡ false → (b : Name) → Contains candidates b → (a : Name) × (Contains names a × (edge x a b ≡ true))
     blocked none b (k, within, is) =
