@@ -1,5 +1,9 @@
 -- The number of actions, thread by thread.
-use Rattle.std.proofs.Common.{◌≡◌, ℕ, zero, suc, ◌+◌, ◌<◌, ◌≤◌, Bool, true, ◌&&◌, ltb, ◌⊎◌, List, [], ◌∷◌, sym, refl, subst, inl, inr, ⊎_elim, arith}
+use Rattle.std.proofs.Common.{◌≡◌, ℕ, zero, suc, ◌+◌, ◌<◌, ◌≤◌, Bool, true, ◌&&◌, ltb, ◌⊎◌, List, [], ◌∷◌, get_or, sym, refl, ap, ◌∙◌, zero-add, le_of_suc-le-suc, subst, inl, inr, ⊎_elim, arith}
+use Rattle.std.specs.List.{Contains}
+use Rattle.std.proofs.lemmas.List.FromFn.{get_or-range_with_len}
+use Rattle.std.proofs.lemmas.List.Recursion.{is_sum_by}
+use Rattle.std.proofs.lemmas.List.Sums.{get_or-le-sum_by}
 use Rattle.std.proofs.lemmas.Bool.{and_parts, cases_eq, ltb-true}
 use Rattle.ledger.specs.Tests.{sum_over, threads}
 
@@ -41,34 +45,35 @@ sum_one f g t agree one (u ∷ us) up =
 pub one_more : (f g : ℕ → ℕ) (t : ℕ) → ((u : ℕ) → (u ≡ t → ⊥) → g u ≡ f u) → g t ≡ f t + 1 → sum_over g threads ≤ sum_over f threads + 1
 one_more f g t agree one = sum_one f g t agree one threads refl
 
--- Less at one place and no more elsewhere is less in the sum.
-abbrev pub Among : ℕ → List ℕ → Type 0
-Among t [] = ⊥
-Among t (u ∷ us) = (u ≡ t) ⊎ Among t us
+-- What a list contains is its first or stands behind it.
+pub contains_cases : {X : Type 0} (b : X) (bs : List X) (a : X) → Contains (b ∷ bs) a → (b ≡ a) ⊎ Contains bs a
+contains_cases b bs a (zero, within, is) = inl is
+contains_cases b bs a (suc k, within, is) = inr (k, le_of_suc-le-suc within, is)
 
+-- Less at one place and no more elsewhere is less in the sum.
 sum_no_more : (f g : ℕ → ℕ) → ((u : ℕ) → f u ≤ g u) → (us : List ℕ) → sum_over f us ≤ sum_over g us
 sum_no_more f g no_more [] = omega arith
 sum_no_more f g no_more (u ∷ us) = let rest : sum_over f us ≤ sum_over g us = sum_no_more f g no_more us in omega (arith, rest, no_more u)
 
-sum_less : (f g : ℕ → ℕ) (t : ℕ) → ((u : ℕ) → f u ≤ g u) → f t < g t → (us : List ℕ) → Among t us → sum_over f us < sum_over g us
-sum_less f g t no_more less [] there = absurd there
+sum_less : (f g : ℕ → ℕ) (t : ℕ) → ((u : ℕ) → f u ≤ g u) → f t < g t → (us : List ℕ) → Contains us t → sum_over f us < sum_over g us
+sum_less f g t no_more less [] there = absurd (omega (arith, there.1))
 sum_less f g t no_more less (u ∷ us) there =
     ⊎_elim
     (λ is. let here : f u < g u = subst (λ k. f k < g k) (sym is) less in let rest : sum_over f us ≤ sum_over g us = sum_no_more f g no_more us in omega (arith, here, rest))
     (λ later. let rest : sum_over f us < sum_over g us = sum_less f g t no_more less us later in omega (arith, rest, no_more u))
-    there
+    (contains_cases u us t there)
 
 -- Each of the eight threads is among them.
-pub a_thread : (t : ℕ) → t < 8 → Among t threads
-a_thread zero lt = inl refl
-a_thread (suc zero) lt = inr (inl refl)
-a_thread (suc (suc zero)) lt = inr (inr (inl refl))
-a_thread (suc (suc (suc zero))) lt = inr (inr (inr (inl refl)))
-a_thread (suc (suc (suc (suc zero)))) lt = inr (inr (inr (inr (inl refl))))
-a_thread (suc (suc (suc (suc (suc zero))))) lt = inr (inr (inr (inr (inr (inl refl)))))
-a_thread (suc (suc (suc (suc (suc (suc zero)))))) lt = inr (inr (inr (inr (inr (inr (inl refl))))))
-a_thread (suc (suc (suc (suc (suc (suc (suc zero))))))) lt = inr (inr (inr (inr (inr (inr (inr (inl refl)))))))
-a_thread (suc (suc (suc (suc (suc (suc (suc (suc t)))))))) lt = absurd (omega (arith, lt))
+pub a_thread : (t : ℕ) → t < 8 → Contains threads t
+a_thread t in_range = (t, in_range, get_or-range_with_len 0 8 t t in_range ∙ zero-add t)
+
+-- What one thread has is no more than what all have.
+pub one_of_all : (f : ℕ → ℕ) (t : ℕ) → t < 8 → f t ≤ sum_over f threads
+one_of_all f t in_range =
+    let all = is_sum_by (sum_over f) f refl (λ u us. refl) threads in
+    let at : f (get_or threads t 0) ≡ f t = ap f (get_or-range_with_len 0 8 t 0 in_range ∙ zero-add t) in
+    let one = get_or-le-sum_by f threads t 0 in_range in
+    omega (arith, all, at, one)
 
 pub one_less : (f g : ℕ → ℕ) (t : ℕ) → t < 8 → ((u : ℕ) → f u ≤ g u) → f t < g t → sum_over f threads < sum_over g threads
 one_less f g t in_range no_more less = sum_less f g t no_more less threads (a_thread t in_range)

@@ -1,7 +1,8 @@
 -- A drain keeps what holds of every ledger; and so does every accepted move, over every kind that keeps the laws.
-use Rattle.std.proofs.Common.{◌≡◌, ℕ, zero, suc, ◌<◌, true, ◌⊎◌, List, [], ◌∷◌, ◌++◌, map, get_or, Some, sym, refl, ap, ◌∙◌, subst, inl, inr, ⊎_elim, arith}
+use Rattle.std.proofs.Common.{◌≡◌, ℕ, ◌<◌, true, ◌⊎◌, List, [], ◌∷◌, ◌++◌, map, get_or, Some, sym, refl, ap, ◌∙◌, zero-add, subst, inl, inr, ⊎_elim}
 use Rattle.std.specs.List.{Contains, All}
 use Rattle.std.proofs.lemmas.List.Elements.{All-nil, All-head, All-tail, All-push, All-weaker, Contains-append_left, Contains-push}
+use Rattle.std.proofs.lemmas.List.FromFn.{get_or-map-range_with_len}
 use Rattle.std.proofs.lemmas.Bool.{cases_eq}
 use Rattle.program.specs.declared.lines.Line.{Line}
 use Rattle.buffers.specs.Laws.{Lawful, Rules}
@@ -122,18 +123,7 @@ module _ (ls : List Line) (l : Ledger) (sound : Sound ls l) (t c : ℕ) (e : Ent
 
 -- The list that the rules see of a thread is what waits in the ledger.
 pub list_in : (l : Ledger) (t : ℕ) → t < 8 → list_of (lists_in l) t ≡ map (λ e. e.store) (l.waiting t)
-list_in l t in_range = go t in_range
-  where
-    go : (u : ℕ) → u < 8 → list_of (lists_in l) u ≡ map (λ e. e.store) (l.waiting u)
-    go zero lt = refl
-    go (suc zero) lt = refl
-    go (suc (suc zero)) lt = refl
-    go (suc (suc (suc zero))) lt = refl
-    go (suc (suc (suc (suc zero)))) lt = refl
-    go (suc (suc (suc (suc (suc zero))))) lt = refl
-    go (suc (suc (suc (suc (suc (suc zero)))))) lt = refl
-    go (suc (suc (suc (suc (suc (suc (suc zero))))))) lt = refl
-    go (suc (suc (suc (suc (suc (suc (suc (suc u)))))))) lt = absurd (omega (arith, lt))
+list_in l t in_range = get_or-map-range_with_len (λ u. map (λ e. e.store) (l.waiting u)) 0 8 t t [] in_range (zero-add t)
 
 -- A drain that is accepted finds its store.
 pub drain_finds : (rules : Rules) (ls : List Line) (l : Ledger) (t c : ℕ) → Lawful rules → Passes rules ls l (Drain t c) → (e : Entry) × (oldest c (l.waiting t) ≡ Some e)

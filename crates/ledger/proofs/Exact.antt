@@ -13,7 +13,7 @@ use Rattle.ledger.specs.Tests.{threads}
 use Rattle.ledger.specs.Theorems.{HasRun, NoEdgeToItself, Ring, RunExactlyWithoutRing}
 use Rattle.ledger.specs.Verdicts.{Different}
 use Rattle.ledger.proofs.Apart.{Sort, after_source_one, edge_parts, next_in_cell, next_of_thread, overwritten_by, source_of}
-use Rattle.ledger.proofs.Counts.{Among, a_thread}
+use Rattle.ledger.proofs.Counts.{a_thread, contains_cases}
 use Rattle.ledger.proofs.Draining.{sound_moves}
 use Rattle.ledger.proofs.Forward.{run_gives_no_ring}
 use Rattle.ledger.proofs.Growing.{Exists, same_true}
@@ -35,13 +35,13 @@ in_up_to : (t n p : ℕ) → p < n → Contains (up_to t n) (name t p)
 in_up_to t zero p lt = absurd (omega (arith, lt))
 in_up_to t (suc n) p lt = ⊎_elim (λ before. Contains-append_right (name t n ∷ []) (up_to t n) (name t p) (in_up_to t n p before)) (λ past. (0, omega arith, ap (name t) (let is : n ≡ p = omega (arith, lt, past) in is))) (cases_lt p n)
 
-in_all_of : (acts : ℕ → List Action) (us : List ℕ) (a : Name) → Among a.thread us → Exists acts a → Contains (all_of acts us) a
-in_all_of acts [] a among there = absurd among
+in_all_of : (acts : ℕ → List Action) (us : List ℕ) (a : Name) → Contains us a.thread → Exists acts a → Contains (all_of acts us) a
+in_all_of acts [] a among there = absurd (omega (arith, among.1))
 in_all_of acts (u ∷ us) a among there =
     ⊎_elim
     (λ is. Contains-append_left (up_to u (length (acts u))) (all_of acts us) a (subst (λ v. Contains (up_to v (length (acts v))) a) (sym is) (in_up_to a.thread (length (acts a.thread)) a.position there)))
     (λ later. Contains-append_right (up_to u (length (acts u))) (all_of acts us) a (in_all_of acts us a later there))
-    among
+    (contains_cases u us a.thread among)
 
 up_to_all : (P : Name → Type 0) (t n : ℕ) → ((p : ℕ) → p < n → P (name t p)) → All P (up_to t n)
 up_to_all P t zero holds = All-nil P

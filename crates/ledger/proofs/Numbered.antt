@@ -1,5 +1,5 @@
 -- The numbering of a trace's actions: every action has one number, lower actions have lower numbers.
-use Rattle.std.proofs.Common.{◌≡◌, ℕ, zero, suc, ◌+◌, ◌<◌, ◌≤◌, ◌⊎◌, List, [], ◌∷◌, ◌++◌, length, get_or, sym, refl, ap, ◌∙◌, subst, inl, inr, ⊎_elim, suc-le-suc, le_of_suc-le-suc, arith}
+use Rattle.std.proofs.Common.{◌≡◌, ℕ, zero, suc, ◌+◌, ◌<◌, ◌≤◌, List, [], ◌∷◌, ◌++◌, length, get_or, sym, refl, ap, ◌∙◌, subst, inl, inr, ⊎_elim, le_of_suc-le-suc, arith}
 use Rattle.std.specs.List.{All, Contains}
 use Rattle.std.proofs.lemmas.List.Elements.{All-nil, All-cons, All-head, All-tail, All-append, All-get_or, All-weaker, Contains-append_left, Contains-append_right}
 use Rattle.std.proofs.lemmas.List.{get_or_default}
@@ -9,7 +9,7 @@ use Rattle.ledger.specs.Edges.{Trace}
 use Rattle.ledger.specs.Nodes.{node_name, nodes, nodes_of, run_of_names}
 use Rattle.ledger.specs.Tests.{threads}
 use Rattle.ledger.specs.Verdicts.{Lower}
-use Rattle.ledger.proofs.Counts.{Among, a_thread}
+use Rattle.ledger.proofs.Counts.{a_thread, contains_cases}
 use Rattle.ledger.proofs.Growing.{Exists}
 
 -- each comes before all that follow, by thread and then by position
@@ -39,13 +39,13 @@ in_run t p (suc n) q low high =
     (cases_lt p q)
 
 -- Every action has a number.
-pub in_nodes : (acts : ℕ → List Action) (ts : List ℕ) (a : Name) → Among a.thread ts → Exists acts a → Contains (nodes_of acts ts) a
-in_nodes acts [] a among there = absurd among
+pub in_nodes : (acts : ℕ → List Action) (ts : List ℕ) (a : Name) → Contains ts a.thread → Exists acts a → Contains (nodes_of acts ts) a
+in_nodes acts [] a among there = absurd (omega (arith, among.1))
 in_nodes acts (t ∷ ts) a among there =
     ⊎_elim
     (λ is. Contains-append_left (run_of_names t 0 (length (acts t))) (nodes_of acts ts) a (subst (λ v. Contains (run_of_names v 0 (length (acts v))) a) (sym is) (in_run a.thread 0 (length (acts a.thread)) a.position (omega arith) (omega (arith, there)))))
     (λ later. Contains-append_right (run_of_names t 0 (length (acts t))) (nodes_of acts ts) a (in_nodes acts ts a later there))
-    among
+    (contains_cases t ts a.thread among)
 
 -- Every number is an action's.
 pub nodes_exist : (acts : ℕ → List Action) (ts : List ℕ) → All (Exists acts) (nodes_of acts ts)

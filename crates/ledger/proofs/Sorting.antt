@@ -1,6 +1,6 @@
 -- A trace without a ring has an order: place what is ready, until nothing is left; if something is left and nothing is
 -- ready, going back from one to what blocks it must come round.
-use Rattle.std.proofs.Common.{◌≡◌, ℕ, zero, suc, ◌+◌, ◌<◌, ◌≤◌, Bool, true, false, cond, not, ◌&&◌, ◌⊎◌, List, [], ◌∷◌, ◌++◌, length, get_or, filter, sym, refl, ap, ◌∙◌, subst, inl, inr, ⊎_elim, append_assoc, suc-le-suc, le_of_suc-le-suc, arith, length-append}
+use Rattle.std.proofs.Common.{◌≡◌, ℕ, zero, suc, ◌+◌, ◌<◌, ◌≤◌, Bool, true, false, cond, not, ◌&&◌, ◌⊎◌, List, [], ◌∷◌, ◌++◌, length, get_or, filter, sym, refl, ap, ◌∙◌, subst, inl, inr, ⊎_elim, append_assoc, suc-le-suc, arith, length-append}
 use Rattle.std.specs.List.{All, Any, Contains, list_any}
 use Rattle.std.proofs.lemmas.List.Elements.{All-contains, All-nil, All-cons, All-head, All-tail, All-filter, All-push, All-weaker, filter_passes, Contains-append_cases, Contains-append_left, Contains-append_right, Contains-push}
 use Rattle.std.proofs.lemmas.List.Filters.{length-filter_both}
@@ -12,12 +12,8 @@ use Rattle.ledger.specs.Edges.{Trace, edge, is_action}
 use Rattle.ledger.specs.Orders.{InOrder, Lacks, Ready}
 use Rattle.ledger.specs.Theorems.{Chained, Ring}
 use Rattle.ledger.specs.Verdicts.{Different}
+use Rattle.ledger.proofs.Counts.{contains_cases}
 use Rattle.ledger.proofs.Growing.{same_self, same_true}
-
--- A name of a list is its first or stands behind it.
-contains_cases : (b : Name) (names : List Name) (a : Name) → Contains (b ∷ names) a → (b ≡ a) ⊎ Contains names a
-contains_cases b names a (zero, within, is) = inl is
-contains_cases b names a (suc k, within, is) = inr (k, le_of_suc-le-suc within, is)
 
 none_contained : (a : Name) → Contains [] a → ⊥
 none_contained a there = omega (arith, there.1)

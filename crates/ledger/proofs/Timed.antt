@@ -1,6 +1,6 @@
 -- A run gives no ring: over direct every edge goes forward in time.
 use Rattle.std.proofs.Common.{◌≡◌, ℕ, ◌+◌, ◌<◌, ◌≤◌, Bool, true, false, cond, eqb, List, [], ◌∷◌, ◌++◌, map, length, Some, None, Option, sym, refl, ap, ◌∙◌, subst, ⊎_elim, arith}
-use Rattle.std.specs.List.{All}
+use Rattle.std.specs.List.{All, Contains}
 use Rattle.std.proofs.lemmas.List.Elements.{All-nil, All-cons, All-head}
 use Rattle.std.proofs.lemmas.Bool.{and_from, and_parts, cases_lt, cond-false, cond-true, eq-eqb, true≢false}
 use Rattle.program.specs.declared.forms.Instruction.{Instruction}
@@ -15,7 +15,7 @@ use Rattle.ledger.specs.Moves.{act, action_of, added, asked, forwarded, in_memor
 use Rattle.ledger.specs.Runs.{NothingWaits}
 use Rattle.ledger.specs.Tests.{lists_in, threads}
 use Rattle.ledger.proofs.Apart.{Sort, after_source_one, edge_parts, next_in_both, next_in_cell, next_of_thread, none_after_last, overwritten_by, source_of}
-use Rattle.ledger.proofs.Counts.{Among, a_thread}
+use Rattle.ledger.proofs.Counts.{a_thread, contains_cases}
 use Rattle.ledger.proofs.Growing.{Exists, grown, new, new_is, old_or_new, same_self, same_true, update_all}
 use Rattle.ledger.proofs.Passing.{RunPasses}
 use Rattle.ledger.proofs.Replayed.{by_from_reads, by_program_order, by_reads_from, by_store_order, there_true}
@@ -26,11 +26,11 @@ none_from : (es : List Entry) → none_of (map (λ e. e.store) es) ≡ true → 
 none_from [] so = refl
 none_from (e ∷ es) so = absurd (true≢false (sym so))
 
-none_among : (l : Ledger) (us : List ℕ) → nothing_waits (map (λ t. map (λ e. e.store) (l.waiting t)) us) ≡ true → (u : ℕ) → Among u us → l.waiting u ≡ []
-none_among l [] so u there = absurd there
+none_among : (l : Ledger) (us : List ℕ) → nothing_waits (map (λ t. map (λ e. e.store) (l.waiting t)) us) ≡ true → (u : ℕ) → Contains us u → l.waiting u ≡ []
+none_among l [] so u there = absurd (omega (arith, there.1))
 none_among l (v ∷ us) so u there =
     let both = and_parts (none_of (map (λ e. e.store) (l.waiting v))) (nothing_waits (map (λ t. map (λ e. e.store) (l.waiting t)) us)) so in
-    ⊎_elim (λ is. subst (λ k. l.waiting k ≡ []) is (none_from (l.waiting v) both.0)) (λ later. none_among l us both.1 u later) there
+    ⊎_elim (λ is. subst (λ k. l.waiting k ≡ []) is (none_from (l.waiting v) both.0)) (none_among l us both.1 u) (contains_cases v us u there)
 
 -- and so nowhere, since no other thread has an action.
 pub nothing_waits_from : (ls : List Line) (l : Ledger) → Sound ls l → nothing_waits (lists_in l) ≡ true → NothingWaits l

@@ -22,7 +22,7 @@ use Rattle.ledger.specs.Tests.{how_many, sum_over, threads}
 use Rattle.ledger.specs.Theorems.{Chained}
 use Rattle.ledger.specs.Verdicts.{ListsRing}
 use Rattle.ledger.specs.declared.moves.Move.{Move}
-use Rattle.ledger.proofs.Counts.{Among, a_thread}
+use Rattle.ledger.proofs.Counts.{one_of_all}
 use Rattle.ledger.proofs.Draining.{sound_moves}
 use Rattle.ledger.proofs.Sound.{Sound, sound_start}
 use Rattle.replay.specs.Names.{name_of}
@@ -38,12 +38,6 @@ use Rattle.recording.specs.Verdicts.{ReadAs, TrulyRead, faulty}
 use Rattle.recording.specs.declared.faults.Failure.TheVariants.{At}
 use Rattle.recording.specs.declared.faults.Fault.{Fault}
 use Rattle.recording.proofs.Accepting.{accepted_moves, rules_lawful}
-
--- What is added for one of the numbers is at most the sum.
-sum_at_least : (f : ℕ → ℕ) (t : ℕ) (us : List ℕ) → Among t us → f t ≤ sum_over f us
-sum_at_least f t [] there = absurd there
-sum_at_least f t (u ∷ us) there =
-    ⊎_elim (λ is. let same : f u ≡ f t = ap f is in omega (arith, same)) (λ later. let rest : f t ≤ sum_over f us = sum_at_least f t us later in omega (arith, rest)) there
 
 -- Nothing or one for each of the numbers is at most as many as they are.
 sum_at_most : (f : ℕ → ℕ) → ((t : ℕ) → f t ≤ 1) → (us : List ℕ) → sum_over f us ≤ length us
@@ -70,7 +64,7 @@ small_action ls l sound a is =
     let in_range : a.thread < 8 =
     ⊎_elim (λ below. below)
     (λ past. let none : length (l.actions a.thread) ≡ 0 = ap length (sound.in_range a.thread past) in absurd (omega (arith, none, within))) (cases_lt a.thread 8) in
-    let own : length (l.actions a.thread) ≤ how_many l = sum_at_least (λ t. length (l.actions t)) a.thread threads (a_thread a.thread in_range) in
+    let own : length (l.actions a.thread) ≤ how_many l = one_of_all (λ t. length (l.actions t)) a.thread in_range in
     (in_range, omega (arith, within, own, sound.few))
 
 -- What is in order are actions.

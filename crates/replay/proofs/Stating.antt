@@ -1,5 +1,5 @@
 -- The views of a State: what they tell of one thread, and what they become where a thread or a cell is changed.
-use Rattle.std.proofs.Common.{◌≡◌, ℕ, zero, suc, ◌+◌, ◌<◌, ◌≤◌, Bool, List, [], ◌∷◌, ◌++◌, map, length, get_or, set, replicate, None, vec_items, vec_len, sym, refl, ap, ◌∙◌, ⊎_elim, suc-le-suc, arith}
+use Rattle.std.proofs.Common.{◌≡◌, ℕ, zero, suc, ◌+◌, ◌<◌, ◌≤◌, Bool, List, [], ◌∷◌, ◌++◌, map, length, get_or, set, replicate, None, vec_items, vec_len, sym, refl, ap, ◌∙◌, suc-le-suc, arith}
 use mathlib.Core.Path.{fun_ext}
 use Rattle.std.specs.List.{sum_by}
 use Rattle.std.proofs.lemmas.List.Sums.{sum_by-set, sum_by_from}
@@ -8,7 +8,6 @@ use Rattle.program.specs.declared.lines.Line.{Line}
 use Rattle.ledger.specs.Ledgers.{Local, start_local, update}
 use Rattle.ledger.specs.Moves.{Read, ran}
 use Rattle.ledger.specs.Tests.{sum_over, threads}
-use Rattle.ledger.proofs.Counts.{Among, a_thread}
 use Rattle.ledger.proofs.Growing.{update_all}
 use Rattle.present.specs.Data.{Noted, Present, fresh, how_many_in, untouched}
 use Rattle.replay.specs.Views.{has_bit, local_of, noted_in, noted_of, present_of, read_of}
@@ -121,19 +120,6 @@ few_more s t d after x eight below more room =
     let changed = sum_by-set kept s.threads t after d (omega (arith, eight, below)) in
     let one = ap length more ∙ length_push (noted_in before) x in
     omega (arith, changed, one, kept_noted before, kept_noted after, how_many_kept s eight, room)
-
--- What one has is no more than the sum over a list that it is among.
-one_among : (f : ℕ → ℕ) (t : ℕ) (us : List ℕ) → Among t us → f t ≤ sum_over f us
-one_among f t [] there = absurd there
-one_among f t (u ∷ us) there =
-    ⊎_elim
-    (λ is. let here : f u ≡ f t = ap f is in omega (arith, here))
-    (λ later. let rest : f t ≤ sum_over f us = one_among f t us later in omega (arith, rest))
-    there
-
--- What a thread has is no more than what all have.
-pub one_of_all : (f : ℕ → ℕ) (t : ℕ) → t < 8 → f t ≤ sum_over f threads
-one_of_all f t below = one_among f t threads (a_thread t below)
 
 -- Threads at their start have no action.
 pub none_kept : (ts : List Thread) → length ts ≡ 8 → ((i : ℕ) (e : Thread) → i < length ts → AtStart (get_or ts i e)) → sum_by kept ts ≤ 256

@@ -1,8 +1,9 @@
 use Rattle.std.proofs.Common.{◌≡◌, ◌||◌, [], length, get_or, map, sym, refl, ap, ◌∙◌, arith}
 use Rattle.ledger.specs.Ledgers.{update}
+use Rattle.ledger.proofs.Counts.{one_of_all}
 use Rattle.replay.specs.Views.{has_bit, noted_in}
 use Rattle.replay.proofs.Bits.{bit_written, none_written}
-use Rattle.replay.proofs.Stating.{few_more, local_ran, noted_more, one_of_all, present_same, thread_viewed}
+use Rattle.replay.proofs.Stating.{few_more, local_ran, noted_more, present_same, thread_viewed}
 use Rattle.replay.proofs.state.State.ran.Goals as goal
 
 pub run-requires : goal.run-requires
