@@ -65,6 +65,11 @@ fn show_setups(rt: &HostRuntime) -> anyhow::Result<()> {
         added,
         &SETUP_OF_BUFFER_3,
     )?;
+    show_late_setups(rt)
+}
+
+// Setups behind moves.
+fn show_late_setups(rt: &HostRuntime) -> anyhow::Result<()> {
     let moved = fenced(rt.alloc(), &RUN)?;
     let moved = moved.as_slice();
     show_behind(rt, "a setup behind a run", moved, &SETUP)?;

@@ -36,69 +36,26 @@ impl Fields {
     fn instruction(self) -> Option<Instruction>
         ensures { result ≡ instruction_at self.form self }
     {
-        match self {
-            Fields {
-                form: 0,
+        let a = (self.tag_a, self.a);
+        let b = (self.tag_b, self.b);
+        match (self.form, self.register, self.operation, a, b) {
+            (0, register, 0, (tag, value), (0, 0)) => Some(Instruction::Load {
                 register,
-                operation: 0,
-                tag_a,
-                a,
-                tag_b: 0,
-                b: 0,
-                ..
-            } => Some(Instruction::Load {
-                register,
-                address: operand(tag_a, a)?,
+                address: operand(tag, value)?,
             }),
-            Fields {
-                form: 1,
-                register: 0,
-                operation: 0,
-                tag_a,
-                a,
-                tag_b,
-                b,
-                ..
-            } => Some(Instruction::Store {
+            (1, 0, 0, (tag_a, a), (tag_b, b)) => Some(Instruction::Store {
                 address: operand(tag_a, a)?,
                 value: operand(tag_b, b)?,
             }),
-            Fields {
-                form: 2,
-                register: 0,
-                operation: 0,
-                tag_a: 0,
-                a: 0,
-                tag_b: 0,
-                b: 0,
-                ..
-            } => Some(Instruction::Fence),
-            Fields {
-                form: 3,
-                register,
-                operation: number,
-                tag_a,
-                a,
-                tag_b,
-                b,
-                ..
-            } => Some(Instruction::Compute {
+            (2, 0, 0, (0, 0), (0, 0)) => Some(Instruction::Fence),
+            (3, register, number, (tag_a, a), (tag_b, b)) => Some(Instruction::Compute {
                 register,
                 operation: Operation::try_from(number).ok()?,
                 a: operand(tag_a, a)?,
                 b: operand(tag_b, b)?,
             }),
-            Fields {
-                form: 4,
-                register: 0,
-                operation: 0,
-                tag_a,
-                a,
-                tag_b: 0,
-                b: 0,
-                ..
-            } => Some(Instruction::Assert {
-                condition: operand(tag_a, a)?,
+            (4, 0, 0, (tag, value), (0, 0)) => Some(Instruction::Assert {
+                condition: operand(tag, value)?,
             }),
             _ => None,
         }
