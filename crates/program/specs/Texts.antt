@@ -3,9 +3,11 @@
 -- instruction_text  a word for the form, then what it works on, one space between parts
 -- operand_text      a register is the letter r and its number, a constant its number
 -- operation_text    a word for each operation
+-- unknown_text      that a number names no operation
 use Rattle.std.specs.Prelude.{ℕ, List, ◌++◌, codes, decimal}
 use Rattle.program.specs.declared.operations.Operation.{Operation}
 use Rattle.program.specs.declared.operations.Operation.TheVariants.{Sum, Difference, And, ExclusiveOr, Equal, Less}
+use Rattle.program.specs.declared.operations.UnknownOperation.{UnknownOperation}
 use Rattle.program.specs.declared.forms.Operand.{Operand}
 use Rattle.program.specs.declared.forms.Operand.TheVariants.{Register, Constant}
 use Rattle.program.specs.declared.forms.Instruction.{Instruction}
@@ -33,3 +35,6 @@ instruction_text (Assert condition) = codes "assert " ++ operand_text condition
 
 abbrev pub line_text : Line → List ℕ
 line_text l = decimal l.thread ++ (codes " " ++ (decimal l.label ++ (codes " " ++ (decimal l.next ++ (codes " " ++ instruction_text l.instruction)))))
+
+abbrev pub unknown_text : UnknownOperation → List ℕ
+unknown_text u = codes "no operation has the number " ++ decimal u.number

@@ -1,6 +1,7 @@
 // The six operations on 32-bit numbers.
-ghost use Rattle.std.specs.Prelude.{◌≡◌};
+ghost use Rattle.std.specs.Prelude.{◌≡◌, Some};
 ghost use Rattle.program.specs.Operations.{operation_of, result_of};
+ghost use Rattle.program.specs.Texts.{unknown_text};
 
 use std::error::Error;
 use std::fmt;
@@ -57,6 +58,8 @@ impl TryFrom<u8> for Operation {
 }
 
 impl fmt::Display for UnknownOperation {
+    ghost output = { λ u. Some (unknown_text u) };
+
     fn fmt<W: fmt::Write>(&self, f: &mut fmt::Formatter<W>) -> fmt::Result {
         write!(f, "no operation has the number {}", self.number)
     }
