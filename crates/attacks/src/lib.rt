@@ -17,7 +17,7 @@ mod tests;
 pub use pair::Pair;
 
 // Lists every attack pair of the program at the front of the list, ascending by store and then by load, and answers how many
-// there are. A list with fewer places is refused and is as before.
+// there are: the list is the caller's memory. A list with fewer places is refused and is as before.
 pub fn attack_pairs(program: &Program, list: &mut [Pair]) -> Result<usize, Refusal>
     ensures { Listed (lines_of program.now) list.old result list.new }
 {

@@ -36,7 +36,7 @@ impl Graph for CodePaths<'_> {
     }
 }
 
-// Whether there is a line of that number, and it is a store.
+// Whether there is a line of that number, and it is a store. This and the next differ in a pattern, which no parameter can be.
 pub fn is_store(program: &Program, number: usize) -> bool
     ensures { result ≡ has is_store (lines_of program.now) number }
 {

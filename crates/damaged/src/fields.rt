@@ -1,6 +1,6 @@
 // Instructions with one field changed: a setup and one instruction, and no moves.
 use super::showing::show_text;
-use super::tape::{add_instruction, begun};
+use super::tape::{add_instruction, begun, plain};
 use recording::Kind;
 
 // where the fields stand in an instruction's record, behind its length and kind
@@ -54,7 +54,7 @@ fn show_field(
         *byte = value;
     }
     println!(rt; "== {name}, byte {at} is {value}")?;
-    let mut tape = begun(rt.alloc(), Kind::Queue, [0, 0])?;
+    let mut tape = begun(rt.alloc(), plain(Kind::Queue))?;
     add_instruction(&mut tape, fields)?;
     show_text(rt, tape.as_slice())
 }

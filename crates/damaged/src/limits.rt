@@ -1,14 +1,14 @@
 // Programs of 128 lines, sixteen waiting stores and runs of 256 actions, and one more of each.
 use super::showing::{show_behind, show_tape};
 use super::tape::{
-    Step, add_instruction, add_step, add_steps, begun, drain, fence, load, run, store,
+    Step, add_instruction, add_step, add_steps, begun, drain, fence, load, plain, run, store,
 };
 use recording::Kind;
 use std::alloc::{AllocError, Global};
 
 // A setup and that many fences of thread 0, which stays at label 0.
 fn fences(heap: Global, kind: Kind, count: usize) -> Result<Vec<u8>, AllocError> {
-    let mut tape = begun(heap, kind, [0, 0])?;
+    let mut tape = begun(heap, plain(kind))?;
     for _ in 0..count {
         add_instruction(&mut tape, fence([0, 0, 0]))?;
     }
@@ -60,7 +60,7 @@ fn add_often(tape: &mut Vec<u8>, step: Step, times: usize) -> Result<(), AllocEr
 
 // Sixteen stores of thread 0 to cell 0 that wait, then these moves, then that many drains of cell 0.
 fn show_waiting(rt: &HostRuntime, name: &str, steps: &[Step], drains: usize) -> anyhow::Result<()> {
-    let mut tape = begun(rt.alloc(), Kind::Queue, [0, 0])?;
+    let mut tape = begun(rt.alloc(), plain(Kind::Queue))?;
     add_instruction(&mut tape, store([0, 0, 0], 0, 1))?;
     add_instruction(&mut tape, store([0, 0, 0], 16, 1))?;
     add_instruction(&mut tape, load([0, 0, 0], 0, 0))?;
@@ -88,7 +88,7 @@ fn show_actions(
     count: usize,
     steps: &[Step],
 ) -> anyhow::Result<()> {
-    let mut tape = begun(rt.alloc(), kind, [0, 0])?;
+    let mut tape = begun(rt.alloc(), plain(kind))?;
     add_instruction(&mut tape, fence([0, 0, 0]))?;
     add_instruction(&mut tape, store([0, 0, 0], 0, 1))?;
     add_instruction(&mut tape, fence([0, 1, 0]))?;

@@ -1,14 +1,15 @@
 // Moves that the replay refuses, one for each refusal, beside moves that it takes.
 use super::showing::show_tape;
 use super::tape::{
-    Step, add_instruction, add_steps, assert, begun, drain, fence, load, run, store,
+    STRONG_14, Step, add_instruction, add_steps, assert, begun, drain, fence, load, plain, run,
+    store,
 };
-use recording::Kind;
+use recording::{Kind, Setup};
 use std::alloc::{AllocError, Global};
 
 // A setup and eleven instructions, of threads 0 to 3: the first move is record 12, at byte 228.
-pub(super) fn ways(heap: Global, kind: Kind, strong: [u8; 2]) -> Result<Vec<u8>, AllocError> {
-    let mut tape = begun(heap, kind, strong)?;
+pub(super) fn ways(heap: Global, setup: Setup) -> Result<Vec<u8>, AllocError> {
+    let mut tape = begun(heap, setup)?;
     add_instruction(&mut tape, store([0, 0, 1], 15, 5))?;
     add_instruction(&mut tape, load([0, 1, 2], 0, 15))?;
     add_instruction(&mut tape, fence([0, 2, 3]))?;
@@ -27,18 +28,17 @@ pub(super) fn ways(heap: Global, kind: Kind, strong: [u8; 2]) -> Result<Vec<u8>,
 pub(super) fn show_ways(
     rt: &HostRuntime,
     name: &str,
-    kind: Kind,
-    strong: [u8; 2],
+    setup: Setup,
     steps: &[Step],
 ) -> anyhow::Result<()> {
-    let mut tape = ways(rt.alloc(), kind, strong)?;
+    let mut tape = ways(rt.alloc(), setup)?;
     add_steps(&mut tape, steps)?;
     show_tape(rt, name, tape.as_slice())
 }
 
 // Over queue.
 fn show_queue(rt: &HostRuntime, name: &str, steps: &[Step]) -> anyhow::Result<()> {
-    show_ways(rt, name, Kind::Queue, [0, 0], steps)
+    show_ways(rt, name, plain(Kind::Queue), steps)
 }
 
 // Thread 0 at label 3, with nothing waiting and 5 in its register 0, and then this move.
@@ -76,35 +76,24 @@ fn show_steps(rt: &HostRuntime) -> anyhow::Result<()> {
     show_ways(
         rt,
         "7: over direct, the same thread",
-        Kind::Direct,
-        [0, 0],
+        plain(Kind::Direct),
         &own,
     )?;
     let other = [run(0, 0), run(1, 7)];
     show_ways(
         rt,
         "7: over direct, another thread",
-        Kind::Direct,
-        [0, 0],
+        plain(Kind::Direct),
         &other,
     )?;
-    let strong = [0, 128];
-    show_ways(
-        rt,
-        "7: a store to the strong cell 15",
-        Kind::PerCell,
-        strong,
-        &own,
-    )?;
+    let strong_15 = Setup {
+        kind: Kind::PerCell,
+        strong: 1 << 15,
+    };
+    show_ways(rt, "7: a store to the strong cell 15", strong_15, &own)?;
     let passed = [run(0, 0), run(1, 7), drain(0, 15)];
-    show_ways(
-        rt,
-        "a strong cell and another thread",
-        Kind::PerCell,
-        strong,
-        &passed,
-    )?;
-    show_ways(rt, "a strong cell 14", Kind::PerCell, [0, 64], &own)
+    show_ways(rt, "a strong cell and another thread", strong_15, &passed)?;
+    show_ways(rt, "a strong cell 14", STRONG_14, &own)
 }
 
 fn show_drains(rt: &HostRuntime) -> anyhow::Result<()> {
@@ -124,8 +113,7 @@ fn show_drains(rt: &HostRuntime) -> anyhow::Result<()> {
     show_ways(
         rt,
         "over per-cell, a younger store",
-        Kind::PerCell,
-        [0, 0],
+        plain(Kind::PerCell),
         &younger,
     )
 }

@@ -1,27 +1,29 @@
 // Which test comes first where two would refuse, and the six operations.
 use super::moves::{show_ways, ways};
 use super::showing::{show_tape, show_text};
-use super::tape::{Step, add_instruction, add_step, add_steps, assert, begun, drain, run};
+use super::tape::{
+    STRONG_14, Step, add_instruction, add_step, add_steps, assert, begun, drain, plain, run,
+};
 use recording::Kind;
 
 fn show_tests(rt: &HostRuntime) -> anyhow::Result<()> {
-    show_ways(rt, "3 before 4", Kind::Queue, [0, 0], &[run(8, 255)])?;
-    show_ways(rt, "3 before 9", Kind::Queue, [0, 0], &[drain(8, 16)])?;
-    show_ways(rt, "4 before 5", Kind::Queue, [0, 0], &[run(1, 1)])?;
+    show_ways(rt, "3 before 4", plain(Kind::Queue), &[run(8, 255)])?;
+    show_ways(rt, "3 before 9", plain(Kind::Queue), &[drain(8, 16)])?;
+    show_ways(rt, "4 before 5", plain(Kind::Queue), &[run(1, 1)])?;
     let foreign = [run(0, 0), run(1, 2)];
-    show_ways(rt, "4 before 7", Kind::Direct, [0, 0], &foreign)?;
+    show_ways(rt, "4 before 7", plain(Kind::Direct), &foreign)?;
     let elsewhere = [run(0, 0), run(0, 2)];
-    show_ways(rt, "5 before 7", Kind::Direct, [0, 0], &elsewhere)?;
+    show_ways(rt, "5 before 7", plain(Kind::Direct), &elsewhere)?;
     let fenced = [run(0, 0), run(0, 9), run(0, 2)];
-    show_ways(rt, "7 before 8", Kind::PerCell, [0, 64], &fenced)?;
+    show_ways(rt, "7 before 8", STRONG_14, &fenced)?;
     let outside = [run(0, 0), run(2, 8)];
-    show_ways(rt, "7 before 9", Kind::Direct, [0, 0], &outside)?;
-    show_ways(rt, "9 and not 7", Kind::Queue, [0, 0], &outside)
+    show_ways(rt, "7 before 9", plain(Kind::Direct), &outside)?;
+    show_ways(rt, "9 and not 7", plain(Kind::Queue), &outside)
 }
 
 // A move, some bytes, and a move that is refused by 5.
 fn show_between(rt: &HostRuntime, name: &str, first: Step, between: &[u8]) -> anyhow::Result<()> {
-    let mut tape = ways(rt.alloc(), Kind::Queue, [0, 0])?;
+    let mut tape = ways(rt.alloc(), plain(Kind::Queue))?;
     add_step(&mut tape, first)?;
     tape.extend_from_slice(between)?;
     add_step(&mut tape, run(0, 6))?;
@@ -45,7 +47,7 @@ fn show_operation(
     expected: [u8; 4],
 ) -> anyhow::Result<()> {
     println!(rt; "== operation {number}")?;
-    let mut tape = begun(rt.alloc(), Kind::Queue, [0, 0])?;
+    let mut tape = begun(rt.alloc(), plain(Kind::Queue))?;
     tape.extend_from_slice(&[20, 0, 2, 0, 0, 0, 1, 3, 0, number, 1, 1])?;
     tape.extend_from_slice(&a)?;
     tape.extend_from_slice(&b)?;

@@ -1,6 +1,6 @@
 // Records where their kind may not stand.
 use super::showing::{show_behind, show_tape};
-use super::tape::{begun, dekker};
+use super::tape::{begun, dekker, plain};
 use recording::Kind;
 use std::alloc::{AllocError, Global};
 
@@ -22,7 +22,7 @@ const DRAIN: [u8; 6] = [6, 0, 4, 0, 0, 0];
 
 // A setup, a fence and these bytes.
 fn fenced(heap: Global, more: &[u8]) -> Result<Vec<u8>, AllocError> {
-    let mut tape = begun(heap, Kind::Queue, [0, 0])?;
+    let mut tape = begun(heap, plain(Kind::Queue))?;
     tape.extend_from_slice(&FENCE)?;
     tape.extend_from_slice(more)?;
     Ok(tape)

@@ -1,8 +1,8 @@
 // Putting a recording together, record by record.
-use recording::Kind;
+use recording::{Kind, Setup};
 use std::alloc::{AllocError, Global};
 
-// A move.
+// A move. A record of the reader's could be a setup too, and what is put together here leans on no part of it that is tested.
 #[derive(Clone, Copy)]
 pub(super) enum Step {
     Run { thread: u8, instruction: u8 },
@@ -21,7 +21,7 @@ pub(super) fn drain(thread: u8, cell: u8) -> Step {
 }
 
 impl Step {
-    // The bytes of its record.
+    // The bytes of its record, by a call: a conversion would not say of what.
     fn bytes(self) -> [u8; 6] {
         match self {
             Step::Run {
@@ -33,16 +33,27 @@ impl Step {
     }
 }
 
-// A recording that begins with that setup; the strong cells as two bytes.
-pub(super) fn begun(heap: Global, kind: Kind, strong: [u8; 2]) -> Result<Vec<u8>, AllocError> {
+// A kind of buffer with no strong cell.
+pub(super) fn plain(kind: Kind) -> Setup {
+    Setup { kind, strong: 0 }
+}
+
+// Per-cell under a strong cell 14.
+pub(super) const STRONG_14: Setup = Setup {
+    kind: Kind::PerCell,
+    strong: 1 << 14,
+};
+
+// A recording that begins with that setup. Kinds are numbered here once more, and not by the reader's own numbers.
+pub(super) fn begun(heap: Global, setup: Setup) -> Result<Vec<u8>, AllocError> {
     let mut tape = Vec::new(heap);
-    let number = match kind {
+    let number = match setup.kind {
         Kind::Direct => 0,
         Kind::Queue => 1,
         Kind::PerCell => 2,
     };
     tape.extend_from_slice(&[8, 0, 1, 0, number, 0])?;
-    tape.extend_from_slice(&strong)?;
+    tape.extend_from_slice(&setup.strong.to_le_bytes())?;
     Ok(tape)
 }
 
@@ -93,7 +104,7 @@ pub(super) fn assert(place: [u8; 3], register: u8) -> [u8; 16] {
 // Dekker over queue, both loads before the drains: 124 bytes. The setup is at 0, the instructions are at 8, 28, 48 and 68, the runs at
 // 88, 94, 100 and 106, and the drains at 112 and 118.
 pub(super) fn dekker(heap: Global) -> Result<Vec<u8>, AllocError> {
-    let mut tape = begun(heap, Kind::Queue, [0, 0])?;
+    let mut tape = begun(heap, plain(Kind::Queue))?;
     add_instruction(&mut tape, store([0, 0, 1], 0, 1))?;
     add_instruction(&mut tape, load([0, 1, 2], 0, 1))?;
     add_instruction(&mut tape, store([1, 0, 1], 1, 1))?;

@@ -28,7 +28,8 @@ enum Standing {
     Behind(usize),
 }
 
-// The nodes placed so far, in their order, and how each node stands.
+// The nodes placed so far, in their order, and how each node stands. The graph is lent to each call and not held: the search for the
+// lowest node, what is stuck and the ring in it know no graph, and a type with its lifetime would be no plainer.
 #[derive(Drop)]
 struct Sorting {
     order: ArrayVec<usize, 256>,
@@ -52,7 +53,7 @@ struct Round {
 // Writes an order of all nodes or a ring at the front of the list, and leaves the later places. At each place of the
 // order stands the lowest of the nodes that are not placed before it while every node with an edge to them is. In a ring
 // an edge leads from each node to the next and from the last to the first, which is the lowest. A list with fewer places
-// than there are nodes is refused, `None`, and is as before.
+// than there are nodes is refused, `None`, and is as before. The list is the caller's memory, so the answer says how much of it is written.
 pub fn order_or_ring<G: Graph>(graph: &G, list: &mut [usize]) -> Option<Written>
     ensures { Answered (G.Graph.joins graph.now) (G.Graph.size graph.now) list.old list.new result }
 {

@@ -40,8 +40,8 @@ impl<R: Rule> Graph for Ruled<R> {
     }
 }
 
-// Nodes in a row, each with an edge to the next. One more edge leads back to the first and makes the first few a ring;
-// there is none where `ring`, the number of those, is 0.
+// Nodes in a row, each with an edge to the next. One more edge leads back to the first from the last of the first `ring`
+// nodes, which makes those a ring. It may have no nodes.
 #[derive(Drop)]
 struct Row {
     ring: usize,
@@ -55,8 +55,8 @@ impl Rule for Row {
     }
 }
 
-// Stairs, with an edge from each node to the one two below it, and from the node `up`, where there is one of that number,
-// to the one two above it.
+// Stairs, with an edge from each node to the one two below it, and from the node `up` to the one two above it. As of any
+// graph, any number may be asked of.
 #[derive(Drop)]
 struct Stairs {
     up: usize,

@@ -11,10 +11,12 @@ use std::env;
 // each round has two actions of each thread
 const ROUNDS: usize = 16;
 
-// which of a thread's two instructions is its store
-const STORE: u8 = 0;
-
-const LOAD: u8 = 1;
+// The two instructions of each thread, in the order in which they stand.
+#[derive(Clone, Copy)]
+enum Half {
+    Store,
+    Load,
+}
 
 // The cell that a thread loads: the one that its neighbour stores to.
 fn neighbour(thread: u8) -> u8 {
@@ -40,11 +42,16 @@ fn neighbours(heap: Global) -> anyhow::Result<Program> {
 }
 
 // A thread runs one of its two instructions.
-fn run(thread: u8, which: u8) -> Move {
+fn run(thread: u8, half: Half) -> Move {
     let thread = thread as usize;
+    let first = 2 * thread;
+    let instruction = match half {
+        Half::Store => first,
+        Half::Load => first + 1,
+    };
     Move::Run {
         thread,
-        instruction: 2 * thread + which as usize,
+        instruction,
     }
 }
 
@@ -59,18 +66,18 @@ fn drain(thread: u8) -> Move {
 
 // A round of one thread, its store drained directly.
 fn prompt(replay: &mut Replay<Queue>, thread: u8) -> anyhow::Result<()> {
-    replay.offer(run(thread, STORE))?;
+    replay.offer(run(thread, Half::Store))?;
     replay.offer(drain(thread))?;
-    replay.offer(run(thread, LOAD))?;
+    replay.offer(run(thread, Half::Load))?;
     Ok(())
 }
 
 // A round of two neighbours, whose loads both come before the drains.
 fn late(replay: &mut Replay<Queue>, first: u8, second: u8) -> anyhow::Result<()> {
-    replay.offer(run(first, STORE))?;
-    replay.offer(run(second, STORE))?;
-    replay.offer(run(first, LOAD))?;
-    replay.offer(run(second, LOAD))?;
+    replay.offer(run(first, Half::Store))?;
+    replay.offer(run(second, Half::Store))?;
+    replay.offer(run(first, Half::Load))?;
+    replay.offer(run(second, Half::Load))?;
     replay.offer(drain(first))?;
     replay.offer(drain(second))?;
     Ok(())

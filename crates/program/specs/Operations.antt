@@ -1,6 +1,6 @@
 -- result_of o a b    what the operation o makes of the 32-bit numbers a and b
 -- numbered n         the operation of a number
--- operation_of n     that operation, or the number that names none
+-- operation_of n     that operation, or the number that names none; known n o, by what it is
 use Rattle.std.specs.Prelude.{ℕ, zero, suc, ◌+◌, ◌-◌, ◌%◌, ◌^◌, cond, Some, None, Ok, Err, Option, Result, ◌==◌, bit_and, bit_xor, nat_lt}
 use Rattle.program.specs.declared.operations.Operation.{Operation}
 use Rattle.program.specs.declared.operations.Operation.TheVariants.{Sum, Difference, And, ExclusiveOr, Equal, Less}

@@ -16,7 +16,7 @@ use std::fmt::Write;
 // the fewest bytes that a page may have
 const PAGE: usize = 2048;
 
-// the most actions that a run has
+// the most actions that a run has, as the definitions say; one constant over crates would be no plainer
 const MOST: usize = 256;
 
 // Why nothing was printed.
@@ -28,7 +28,8 @@ pub enum Unprinted {
 }
 
 impl Unprinted {
-    // The number by which it is reported: 15 for a page that is too short, and 0 for want of memory, which is no refusal.
+    // The number by which it is reported: 15 for a page that is too short, and 0 for want of memory, which is no refusal. A call, as a
+    // refusal's number is.
     pub fn number(self) -> u8
         ensures { result ≡ unprinted_number self }
     {
@@ -61,7 +62,7 @@ impl fmt::Display for Unprinted {
 impl Error for Unprinted {}
 
 // Prints the verdict on a recording, or its fault, at the front of the page, and answers how many bytes that are. The page's later bytes
-// are as before. A page of fewer than 2,048 bytes is refused, which is tested first, and is as before.
+// are as before. A page of fewer than 2,048 bytes is refused, which is tested first, and is as before. The page is the caller's memory.
 pub fn print_recording(heap: Global, recording: &[u8], page: &mut [u8]) -> Result<usize, Unprinted>
     ensures { Printed recording.now page.old result page.new }
 {

@@ -20,11 +20,12 @@ use replay::{Name, Replay, Verdict};
 use std::alloc::Global;
 use std::array;
 
-// the most lines that a program has
+// the most lines that a program has, as the definitions say; one constant over crates would be no plainer
 const LINES: usize = 128;
 
 // Reads a recording, replays its run over its store buffer, and judges it into the list. Answers the verdict, or the first fault with
-// its record and byte, and then the list is as before; want of memory is told before anything is written.
+// its record and byte, and then the list is as before; want of memory is told before anything is written. The list is the caller's memory,
+// so the verdict says how much of it is written.
 pub fn judge_recording(
     heap: Global,
     recording: &[u8],

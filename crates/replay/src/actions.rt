@@ -4,7 +4,7 @@ use super::names::Source;
 // the most actions that a run has
 pub(crate) const MOST: usize = 256;
 
-// how many cells there are
+// how many cells there are, as the definitions say; one constant over crates would be no plainer
 pub(crate) const CELLS: usize = 16;
 
 // What an action does to memory.

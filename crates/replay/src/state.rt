@@ -18,7 +18,7 @@ use refusal::Refusal;
 use std::alloc::{AllocError, Global};
 use std::array;
 
-// how many threads there are
+// how many threads there are, as the definitions say; one constant over crates would be no plainer
 pub(crate) const THREADS: usize = 8;
 
 // a cell at the start
@@ -31,7 +31,7 @@ const UNTOUCHED: Cell = Cell {
 pub struct State {
     threads: [Thread; THREADS],
     cells: [Cell; CELLS],
-    // a bit for each thread that delayed a store of its own, the lowest for thread 0
+    // a bit for each thread that delayed a store of its own, the lowest for thread 0: one number, whose ones are the answer
     delayed: u8,
     // a run has at most 256 actions
     ghost few: { sum_by (λ t. vec_len t.actions) threads ≤ 256 },

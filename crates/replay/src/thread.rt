@@ -126,8 +126,7 @@ impl Thread {
     {
         self.label = turn.line.next;
         match turn.line.instruction {
-            Instruction::Load { register, .. } => self.registers[register as usize] = action.value,
-            Instruction::Compute { register, .. } => {
+            Instruction::Load { register, .. } | Instruction::Compute { register, .. } => {
                 self.registers[register as usize] = action.value;
             }
             Instruction::Store { .. } | Instruction::Fence | Instruction::Assert { .. } => {}

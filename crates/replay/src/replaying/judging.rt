@@ -13,7 +13,8 @@ use refusal::Refusal;
 
 impl<B: StoreBuffer> Replay<B> {
     // Judges the actions so far, and lists their order or a ring of them at the front of the list; its later places are as before.
-    // Refused while a store waits, then where the list has fewer places than there are actions; the list is then as before.
+    // Refused while a store waits, then where the list has fewer places than there are actions; the list is then as before. It is the
+    // caller's memory, so the verdict says how much of it is written.
     pub fn judge(&self, list: &mut [Name]) -> Result<Verdict, Refusal>
         ensures { JudgedHeld (standing B.StoreBuffer self.now).held list.old result list.new }
     {
