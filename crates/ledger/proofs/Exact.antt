@@ -4,7 +4,7 @@ use Rattle.std.specs.List.{All, Contains}
 use Rattle.std.proofs.lemmas.List.Elements.{All-nil, All-cons, All-head, All-append, Contains-append_left, Contains-append_right}
 use Rattle.std.proofs.lemmas.Bool.{and_parts, cases_lt, or_cases, true≢false}
 use Rattle.program.specs.declared.lines.Line.{Line}
-use Rattle.ledger.specs.Actions.{Action, Name, Source, from, loads, name, same, stores}
+use Rattle.ledger.specs.Actions.{Action, Name, from, name, same}
 use Rattle.ledger.specs.Edges.{edge, is_action, next_in, trace_of}
 use Rattle.ledger.specs.Ledgers.{Ledger, start}
 use Rattle.ledger.specs.Moves.{ledger_of}
@@ -16,7 +16,7 @@ use Rattle.ledger.proofs.Apart.{Sort, after_source_one, edge_parts, next_in_cell
 use Rattle.ledger.proofs.Counts.{a_thread, contains_cases}
 use Rattle.ledger.proofs.Draining.{sound_moves}
 use Rattle.ledger.proofs.Forward.{run_gives_no_ring}
-use Rattle.ledger.proofs.Growing.{Exists, same_true}
+use Rattle.ledger.proofs.Growing.{Exists, no_store_loads, same_true}
 use Rattle.ledger.proofs.Ordered.{order_gives_run}
 use Rattle.ledger.proofs.Replayed.{there_from, there_true}
 use Rattle.ledger.proofs.Sorting.{Outcome, sort_left}
@@ -95,9 +95,6 @@ next_in_other (x ∷ y ∷ names) a once so =
     (λ here. let parts = and_parts (same x a) (same y a) here in All-head (λ b. b ≡ x → ⊥) y names once.0 (same_true y a parts.1 ∙ sym (same_true x a parts.0)))
     (λ later. next_in_other (y ∷ names) a once.1 later)
     (or_cases (same x a && same y a) (next_in (y ∷ names) a a) so)
-
-no_store_loads : (c d : ℕ) (source : Source) → stores c ≡ loads d source → ⊥
-no_store_loads c d source is = grind arith
 
 pub self_edge : (ls : List Line) (l : Ledger) → Sound ls l → (a : Name) → edge (trace_of l) a a ≡ true → ⊥
 self_edge ls l sound a joined = go (edge_parts (trace_of l) a a joined).sort (edge_parts (trace_of l) a a joined).first

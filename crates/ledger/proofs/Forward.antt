@@ -1,8 +1,8 @@
 -- A drain over direct adds only edges into the store that drains, which is the latest; so a run gives no ring.
-use Rattle.std.proofs.Common.{◌≡◌, ℕ, ◌+◌, ◌<◌, true, eqb, ltb, ◌⊎◌, List, [], ◌∷◌, ◌++◌, length, get_or, Some, sym, refl, ap, ◌∙◌, subst, inl, inr, ⊎_elim, arith}
+use Rattle.std.proofs.Common.{◌≡◌, ℕ, ◌+◌, ◌<◌, true, ltb, ◌⊎◌, List, [], ◌∷◌, ◌++◌, length, get_or, Some, sym, refl, ap, ◌∙◌, subst, inl, inr, ⊎_elim, arith}
 use Rattle.std.specs.List.{All}
 use Rattle.std.proofs.lemmas.List.Elements.{All-nil}
-use Rattle.std.proofs.lemmas.Bool.{and_from, and_parts, eq-eqb, lt-ltb, ltb-true}
+use Rattle.std.proofs.lemmas.Bool.{and_parts, lt-ltb, ltb-true}
 use Rattle.program.specs.declared.lines.Line.{Line}
 use Rattle.buffers.specs.Kinds.{direct}
 use Rattle.buffers.specs.Laws.{Lawful}
@@ -19,7 +19,7 @@ use Rattle.ledger.specs.declared.moves.Move.{Move}
 use Rattle.ledger.specs.declared.moves.Move.TheVariants.{Run, Drain}
 use Rattle.ledger.proofs.Apart.{EdgeParts, Sort, edge_parts, first_in_push, next_in_cell, next_in_push, next_of_thread, overwritten_by, source_of}
 use Rattle.ledger.proofs.Draining.{drain_finds, sound_move}
-use Rattle.ledger.proofs.Growing.{Exists, same_self, update_all}
+use Rattle.ledger.proofs.Growing.{Exists, no_store_loads, same_self, update_all}
 use Rattle.ledger.proofs.Passing.{run_passes}
 use Rattle.ledger.proofs.Replayed.{by_from_reads, by_program_order, by_reads_from, by_store_order, there_true}
 use Rattle.ledger.proofs.Sound.{Entered, Sound, sound_start}
@@ -72,17 +72,14 @@ module _ (ls : List Line) (l : Ledger) (sound : Sound ls l) (t c : ℕ) (e : Ent
       into_x other is = subst (λ y. time a < time y) (sym is) (before_x a parts.first other)
 
       go : Sort (trace_of next) a b → time a < time b
-      go (next_of_thread thread position) = timed.up a b (by_program_order (trace_of l) a b a_in b_in (and_from (eqb a.thread b.thread) (eqb (a.position + 1) b.position) (eq-eqb a.thread b.thread thread) (eq-eqb (a.position + 1) b.position position)))
+      go (next_of_thread thread position) = timed.up a b (by_program_order (trace_of l) a b a_in b_in thread position)
       go (next_in_cell d access so) = ⊎_elim (λ old. timed.up a b (by_store_order (trace_of l) a b a_in b_in d access old)) (λ new. into_x new.0 new.1) (next_cases d a b so)
       go (source_of d access) = timed.up a b (by_reads_from (trace_of l) a b a_in b_in d (from a) access (same_self a a refl))
       go (overwritten_by d source access so) =
           ⊎_elim
           (λ old. timed.up a b (by_from_reads (trace_of l) a b a_in b_in (loads d source) access old))
-          (λ new. into_x (λ is. no_store_loads d source (sym (ap (λ y. (action_at l.actions y).access) is ∙ taken.0.access) ∙ access)) new)
+          (λ new. into_x (λ is. no_store_loads e.store.cell d source (sym (ap (λ y. (action_at l.actions y).access) is ∙ taken.0.access) ∙ access)) new)
           (after_cases d source b so)
-        where
-          no_store_loads : (d' : ℕ) (source' : Source) → stores e.store.cell ≡ loads d' source' → ⊥
-          no_store_loads d' source' is = grind arith
 
   -- A drain over direct keeps the times.
   pub timed_drain : Timed next time n
@@ -145,7 +142,7 @@ edge_same x y same_trace a b joined =
     at_same d access is = ap (λ acts. (get_or acts d.position no_action).access) (sym (same_trace.actions d.thread)) ∙ is
 
     go : is_action y a ≡ true → is_action y b ≡ true → Sort x a b → edge y a b ≡ true
-    go a_in b_in (next_of_thread thread position) = by_program_order y a b a_in b_in (and_from (eqb a.thread b.thread) (eqb (a.position + 1) b.position) (eq-eqb a.thread b.thread thread) (eq-eqb (a.position + 1) b.position position))
+    go a_in b_in (next_of_thread thread position) = by_program_order y a b a_in b_in thread position
     go a_in b_in (next_in_cell d access so) = by_store_order y a b a_in b_in d (at_same a (stores d) access) (subst (λ names. next_in names a b ≡ true) (same_trace.drained d) so)
     go a_in b_in (source_of d access) = by_reads_from y a b a_in b_in d (from a) (at_same b (loads d (from a)) access) (same_self a a refl)
     go a_in b_in (overwritten_by d source access so) = by_from_reads y a b a_in b_in (loads d source) (at_same a (loads d source) access) (subst (λ names. after_source names source b ≡ true) (same_trace.drained d) so)

@@ -2,7 +2,7 @@
 use Rattle.std.proofs.Common.{◌≡◌, ℕ, ◌+◌, ◌<◌, true, eqb, ◌⊎◌, List, [], ◌∷◌, ◌++◌, length, get_or, sym, refl, ap, ◌∙◌, subst, inl, inr, ⊎_elim, arith}
 use Rattle.std.proofs.lemmas.List.{get_or_append_left, get_or_push, length_push}
 use Rattle.std.proofs.lemmas.Bool.{and_from, and_parts, cases_eq, cases_lt, cond-false, cond-true, eq-eqb, eqb-true, ne_eqb}
-use Rattle.ledger.specs.Actions.{Action, Name, name, same, stores}
+use Rattle.ledger.specs.Actions.{Action, Name, Source, loads, name, same, stores}
 use Rattle.ledger.specs.Ledgers.{action_at, no_action, update}
 
 module _ {X : Type 0} (f : ℕ → X) (k : ℕ) (x : X) where
@@ -31,6 +31,10 @@ same_true a b e =
 
 pub same_self : (a b : Name) → a ≡ b → same a b ≡ true
 same_self a b e = and_from (eqb a.thread b.thread) (eqb a.position b.position) (eq-eqb a.thread b.thread (ap (λ x. x.thread) e)) (eq-eqb a.position b.position (ap (λ x. x.position) e))
+
+-- No store is a load.
+pub no_store_loads : (c d : ℕ) (source : Source) → stores c ≡ loads d source → ⊥
+no_store_loads c d source is = grind arith
 
 -- there is an action of that name
 abbrev pub Exists : (ℕ → List Action) → Name → Type 0

@@ -73,7 +73,7 @@ module _ (l : Ledger) (placed : List Name) (counted : Counted placed) (b : Name)
       go (suc q) is =
           let a = name b.thread q in
           let there : Exists l.actions a = let b_there = there_from l b action in omega (arith, b_there, is) in
-          let before = counted.below a (ready a (by_program_order (trace_of l) a b (there_true l a there) action (and_from (eqb b.thread b.thread) (eqb (q + 1) b.position) (eq-eqb b.thread b.thread refl) (eq-eqb (q + 1) b.position (omega (arith, is)))))) in
+          let before = counted.below a (ready a (by_program_order (trace_of l) a b (there_true l a there) action refl (omega (arith, is)))) in
           omega (arith, low, is, before)
 
   counted_push : Counted (placed ++ b ∷ [])

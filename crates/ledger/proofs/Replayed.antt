@@ -1,5 +1,5 @@
 -- An order gives a run: its actions, one after another over direct, lead to the same trace.
-use Rattle.std.proofs.Common.{◌≡◌, ℕ, zero, suc, ◌+◌, ◌<◌, ◌≤◌, Bool, true, ◌&&◌, ◌||◌, eqb, List, length, get_or, take, Some, None, sym, refl, ap, ◌∙◌, subst, ⊎_elim, arith}
+use Rattle.std.proofs.Common.{◌≡◌, ℕ, zero, suc, ◌+◌, ◌<◌, ◌≤◌, true, ◌&&◌, eqb, List, length, get_or, take, Some, None, sym, refl, ap, ◌∙◌, subst, ⊎_elim, arith}
 use Rattle.std.specs.List.{Contains}
 use Rattle.std.proofs.lemmas.List.Elements.{All-get_or}
 use Rattle.std.proofs.lemmas.List.{get_or_default, get_or-take, length-take, nil_from_length}
@@ -21,11 +21,10 @@ module _ (x : Trace) (a b : Name) (a_there : is_action x a ≡ true) (b_there : 
   both_there : (is_action x a && is_action x b) ≡ true
   both_there = and_from (is_action x a) (is_action x b) a_there b_there
 
-  rest_of : Bool
-  rest_of = store_order x a (action_at x.actions a).access b || (reads_from a (action_at x.actions b).access || from_reads x (action_at x.actions a).access b)
-
-  pub by_program_order : program_order a b ≡ true → edge x a b ≡ true
-  by_program_order so = and_from (is_action x a && is_action x b) _ both_there (or_left (program_order a b) _ so)
+  pub by_program_order : a.thread ≡ b.thread → a.position + 1 ≡ b.position → edge x a b ≡ true
+  by_program_order thread position =
+      and_from (is_action x a && is_action x b) _ both_there
+      (or_left (program_order a b) _ (and_from (eqb a.thread b.thread) (eqb (a.position + 1) b.position) (eq-eqb a.thread b.thread thread) (eq-eqb (a.position + 1) b.position position)))
 
   pub by_store_order : (c : ℕ) → (action_at x.actions a).access ≡ stores c → next_in (x.drained c) a b ≡ true → edge x a b ≡ true
   by_store_order c access so =
@@ -119,7 +118,7 @@ module _ (ls : List Line) (l : Ledger) (sound : Sound ls l) (empty : NothingWait
       go (suc q) is =
           let a = name b.thread q in
           let a_there : Exists l.actions a = omega (arith, b_there, is) in
-          let before = part.there a (b_ready a (by_program_order (trace_of l) a b (there_true l a a_there) b_action (and_from (eqb b.thread b.thread) (eqb (q + 1) b.position) (eq-eqb b.thread b.thread refl) (eq-eqb (q + 1) b.position (omega (arith, is)))))) in
+          let before = part.there a (b_ready a (by_program_order (trace_of l) a b (there_true l a a_there) b_action refl (omega (arith, is)))) in
           ⊎_elim (λ there. absurd (b_new there)) (λ past. omega (arith, past, before, is)) (cases_lt b.position (length (m.actions b.thread)))
 
   -- A store has the next rank of its cell: the one before it is placed.

@@ -1,8 +1,8 @@
 -- A run gives no ring: over direct every edge goes forward in time.
-use Rattle.std.proofs.Common.{◌≡◌, ℕ, ◌+◌, ◌<◌, ◌≤◌, Bool, true, false, cond, eqb, List, [], ◌∷◌, ◌++◌, map, length, Some, None, Option, sym, refl, ap, ◌∙◌, subst, ⊎_elim, arith}
+use Rattle.std.proofs.Common.{◌≡◌, ℕ, ◌+◌, ◌<◌, ◌≤◌, Bool, true, false, cond, List, [], ◌∷◌, ◌++◌, map, length, Some, None, Option, sym, refl, ap, ◌∙◌, subst, ⊎_elim, arith}
 use Rattle.std.specs.List.{All, Contains}
 use Rattle.std.proofs.lemmas.List.Elements.{All-nil, All-cons, All-head}
-use Rattle.std.proofs.lemmas.Bool.{and_from, and_parts, cases_lt, cond-false, cond-true, eq-eqb, true≢false}
+use Rattle.std.proofs.lemmas.Bool.{and_parts, cases_lt, cond-false, cond-true, true≢false}
 use Rattle.program.specs.declared.forms.Instruction.{Instruction}
 use Rattle.program.specs.declared.forms.Instruction.TheVariants.{Load, Store, Fence, Compute, Assert}
 use Rattle.program.specs.declared.lines.Line.{Line}
@@ -123,7 +123,7 @@ module _ (ls : List Line) (l : Ledger) (sound : Sound ls l) (empty : NothingWait
           ⊎_elim
           (λ b_old.
           let a_old : Exists l.actions a = subst (λ u. a.position < length (l.actions u)) (sym thread) (omega (arith, position, b_old)) in
-          forward_old a b a_old b_old (by_program_order (trace_of l) a b (there_true l a a_old) (there_true l b b_old) (and_from (eqb a.thread b.thread) (eqb (a.position + 1) b.position) (eq-eqb a.thread b.thread thread) (eq-eqb (a.position + 1) b.position position))))
+          forward_old a b a_old b_old (by_program_order (trace_of l) a b (there_true l a a_old) (there_true l b b_old) thread position))
           (λ b_new. ⊎_elim (λ a_old. forward_new a b a_old b_new) (λ a_new. absurd (let p : a.position ≡ b.position = ap (λ y. y.position) (a_new ∙ sym b_new) in omega (arith, p, position))) (old_or_new l.actions t x a a_there))
           (old_or_new l.actions t x b b_there)
       go (next_in_cell c access so) a_there b_there =
