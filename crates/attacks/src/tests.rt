@@ -12,21 +12,6 @@ fn pair(store: usize, load: usize) -> Pair {
     Pair { store, load }
 }
 
-// Short forms, as the programs above have them: this crate stands below theirs.
-fn store(cell: u32) -> Instruction {
-    Instruction::Store {
-        address: Operand::Constant(cell),
-        value: Operand::Constant(1),
-    }
-}
-
-fn load(cell: u32) -> Instruction {
-    Instruction::Load {
-        register: 0,
-        address: Operand::Constant(cell),
-    }
-}
-
 // An assert that every run passes.
 const PASSED: Instruction = Instruction::Assert {
     condition: Operand::Constant(1),
@@ -43,10 +28,10 @@ fn program_of(heap: Global, lines: &[Line]) -> Result<Program, Fail> {
 // Two threads, each with a store and then a load of the other's cell.
 fn dekker() -> [Line; 4] {
     [
-        Line::new(0, 0, 1, store(0)),
-        Line::new(0, 1, 2, load(1)),
-        Line::new(1, 0, 1, store(1)),
-        Line::new(1, 1, 2, load(0)),
+        Line::new(0, 0, 1, Instruction::store(0, 1)),
+        Line::new(0, 1, 2, Instruction::load(0, 1)),
+        Line::new(1, 0, 1, Instruction::store(1, 1)),
+        Line::new(1, 1, 2, Instruction::load(0, 0)),
     ]
 }
 
@@ -96,7 +81,10 @@ fn threads_do_not_join(rt: HostRuntime) -> Result<(), Fail> {
     lists(
         &rt,
         rt.alloc(),
-        &[Line::new(0, 0, 1, store(0)), Line::new(1, 1, 2, load(1))],
+        &[
+            Line::new(0, 0, 1, Instruction::store(0, 1)),
+            Line::new(1, 1, 2, Instruction::load(0, 1)),
+        ],
         0,
         [BLANK; 3],
     )
@@ -104,10 +92,10 @@ fn threads_do_not_join(rt: HostRuntime) -> Result<(), Fail> {
 
 #[test]
 fn a_fence_cuts_its_own_chain(rt: HostRuntime) -> Result<(), Fail> {
-    let first = Line::new(0, 0, 1, store(0));
+    let first = Line::new(0, 0, 1, Instruction::store(0, 1));
     let fence = Line::new(0, 1, 2, Instruction::Fence);
     let around = Line::new(0, 1, 2, PASSED);
-    let last = Line::new(0, 2, 3, load(1));
+    let last = Line::new(0, 2, 3, Instruction::load(0, 1));
     let pairs = [pair(0, 3), BLANK, BLANK];
     lists(&rt, rt.alloc(), &[first, fence, last], 0, [BLANK; 3])?;
     lists(&rt, rt.alloc(), &[first, fence, around, last], 1, pairs)
@@ -116,10 +104,10 @@ fn a_fence_cuts_its_own_chain(rt: HostRuntime) -> Result<(), Fail> {
 // On the way round the loop, the load that stands first in the program comes last.
 #[test]
 fn a_loop_joins_a_store_to_every_load(rt: HostRuntime) -> Result<(), Fail> {
-    let first = Line::new(0, 0, 1, load(1));
-    let back = Line::new(0, 1, 0, store(0));
-    let on = Line::new(0, 1, 2, store(0));
-    let last = Line::new(0, 2, 0, load(1));
+    let first = Line::new(0, 0, 1, Instruction::load(0, 1));
+    let back = Line::new(0, 1, 0, Instruction::store(0, 1));
+    let on = Line::new(0, 1, 2, Instruction::store(0, 1));
+    let last = Line::new(0, 2, 0, Instruction::load(0, 1));
     let pairs = [pair(1, 0), pair(1, 2), BLANK];
     lists(
         &rt,
@@ -133,8 +121,8 @@ fn a_loop_joins_a_store_to_every_load(rt: HostRuntime) -> Result<(), Fail> {
 
 #[test]
 fn a_store_may_follow_itself(rt: HostRuntime) -> Result<(), Fail> {
-    let again = Line::new(0, 0, 0, store(0));
-    let out = Line::new(0, 0, 1, load(1));
+    let again = Line::new(0, 0, 0, Instruction::store(0, 1));
+    let out = Line::new(0, 0, 1, Instruction::load(0, 1));
     lists(
         &rt,
         rt.alloc(),

@@ -3,7 +3,7 @@
 
 use buffers::Queue;
 use ledger::Move;
-use program::{Instruction, Line, Operand, Program};
+use program::{Instruction, Line, Program};
 use replay::{Name, Replay, Verdict};
 use std::alloc::Global;
 use std::env;
@@ -27,14 +27,8 @@ fn neighbour(thread: u8) -> u8 {
 fn neighbours(heap: Global) -> anyhow::Result<Program> {
     let mut program = Program::new(heap)?;
     for thread in 0..8u8 {
-        let store = Instruction::Store {
-            address: Operand::Constant(u32::from(thread)),
-            value: Operand::Constant(1),
-        };
-        let load = Instruction::Load {
-            register: 0,
-            address: Operand::Constant(u32::from(neighbour(thread))),
-        };
+        let store = Instruction::store(u32::from(thread), 1);
+        let load = Instruction::load(0, u32::from(neighbour(thread)));
         program.add(Line::new(thread, 0, 1, store))?;
         program.add(Line::new(thread, 1, 0, load))?;
     }

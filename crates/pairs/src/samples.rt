@@ -2,21 +2,6 @@
 use program::{Instruction, Line, Operand, Operation};
 use std::array;
 
-// Short forms, as in the program of the worked runs: a crate for the two would be no plainer.
-fn store(cell: u32, value: Operand) -> Instruction {
-    Instruction::Store {
-        address: Operand::Constant(cell),
-        value,
-    }
-}
-
-fn load(register: u8, cell: u32) -> Instruction {
-    Instruction::Load {
-        register,
-        address: Operand::Constant(cell),
-    }
-}
-
 // Adds 1 to register 0.
 fn count() -> Instruction {
     Instruction::Compute {
@@ -27,32 +12,38 @@ fn count() -> Instruction {
     }
 }
 
-const ONE: Operand = Operand::Constant(1);
-
 pub(super) fn dekker() -> [Line; 4] {
     [
-        Line::new(0, 0, 1, store(0, ONE)),
-        Line::new(0, 1, 2, load(0, 1)),
-        Line::new(1, 0, 1, store(1, ONE)),
-        Line::new(1, 1, 2, load(0, 0)),
+        Line::new(0, 0, 1, Instruction::store(0, 1)),
+        Line::new(0, 1, 2, Instruction::load(0, 1)),
+        Line::new(1, 0, 1, Instruction::store(1, 1)),
+        Line::new(1, 1, 2, Instruction::load(0, 0)),
     ]
 }
 
 pub(super) fn dekker_fenced() -> [Line; 5] {
     [
-        Line::new(0, 0, 1, store(0, ONE)),
+        Line::new(0, 0, 1, Instruction::store(0, 1)),
         Line::new(0, 1, 2, Instruction::Fence),
-        Line::new(0, 2, 3, load(0, 1)),
-        Line::new(1, 0, 1, store(1, ONE)),
-        Line::new(1, 1, 2, load(0, 0)),
+        Line::new(0, 2, 3, Instruction::load(0, 1)),
+        Line::new(1, 0, 1, Instruction::store(1, 1)),
+        Line::new(1, 1, 2, Instruction::load(0, 0)),
     ]
 }
 
 pub(super) fn looping() -> [Line; 3] {
     [
-        Line::new(0, 0, 1, load(0, 1)),
+        Line::new(0, 0, 1, Instruction::load(0, 1)),
         Line::new(0, 1, 2, count()),
-        Line::new(0, 2, 0, store(0, Operand::Register(0))),
+        Line::new(
+            0,
+            2,
+            0,
+            Instruction::Store {
+                address: Operand::Constant(0),
+                value: Operand::Register(0),
+            },
+        ),
     ]
 }
 
@@ -60,10 +51,10 @@ pub(super) fn looping() -> [Line; 3] {
 pub(super) fn branch(both: bool) -> [Line; 4] {
     let arm = if both { Instruction::Fence } else { count() };
     [
-        Line::new(3, 0, 1, store(0, ONE)),
+        Line::new(3, 0, 1, Instruction::store(0, 1)),
         Line::new(3, 1, 2, Instruction::Fence),
         Line::new(3, 1, 2, arm),
-        Line::new(3, 2, 3, load(0, 1)),
+        Line::new(3, 2, 3, Instruction::load(0, 1)),
     ]
 }
 
@@ -76,8 +67,8 @@ pub(super) fn full() -> [Line; 129] {
         let thread = (place / 16) as u8;
         let label = (place % 16) as u8;
         let instruction = match label % 4 {
-            0 => store(0, ONE),
-            1 => load(0, 1),
+            0 => Instruction::store(0, 1),
+            1 => Instruction::load(0, 1),
             2 => Instruction::Fence,
             _ => count(),
         };

@@ -1,4 +1,6 @@
 // The five forms of an instruction, with the operands inside.
+ghost use Rattle.std.specs.Prelude.{◌≡◌};
+
 use super::operations::Operation;
 
 // What an instruction works on: a register of its thread, or a number.
@@ -33,4 +35,29 @@ pub enum Instruction {
     Assert {
         condition: Operand,
     },
+}
+
+impl Instruction {
+    ghost use Rattle.program.specs.declared.forms.Instruction.TheVariants.{Load, Store};
+    ghost use Rattle.program.specs.declared.forms.Operand.TheVariants.{Constant};
+
+    // A load of the cell of that number.
+    pub fn load(register: u8, cell: u32) -> Instruction
+        ensures { result ≡ Load register (Constant cell) }
+    {
+        Instruction::Load {
+            register,
+            address: Operand::Constant(cell),
+        }
+    }
+
+    // A store of a number to the cell of that number.
+    pub fn store(cell: u32, value: u32) -> Instruction
+        ensures { result ≡ Store (Constant cell) (Constant value) }
+    {
+        Instruction::Store {
+            address: Operand::Constant(cell),
+            value: Operand::Constant(value),
+        }
+    }
 }
