@@ -1,7 +1,8 @@
 // Recordings that end too early or too late.
 use super::showing::{show_behind, show_text};
 use super::tape::dekker;
-use recording::print_recording;
+use recording::{judge_recording, print_recording};
+use replay::Name;
 
 // The Dekker sample, cut at every byte.
 fn show_cuts(rt: &HostRuntime) -> anyhow::Result<()> {
@@ -42,8 +43,21 @@ fn show_short_page(rt: &HostRuntime) -> anyhow::Result<()> {
     Ok(())
 }
 
+// The reading call alone, with one place too few for the four names.
+fn show_short_list(rt: &HostRuntime) -> anyhow::Result<()> {
+    println!(rt; "== a list of 3 places")?;
+    let tape = dekker(rt.alloc())?;
+    let mut list = [Name::default(); 3];
+    match judge_recording(rt.alloc(), tape.as_slice(), &mut list) {
+        Ok(verdict) => println!(rt; "{verdict}")?,
+        Err(failure) => println!(rt; "{failure}")?,
+    }
+    Ok(())
+}
+
 pub(super) fn show(rt: &HostRuntime) -> anyhow::Result<()> {
     show_cuts(rt)?;
     show_more(rt)?;
-    show_short_page(rt)
+    show_short_page(rt)?;
+    show_short_list(rt)
 }
