@@ -80,7 +80,17 @@ fn show_stores(rt: &HostRuntime) -> anyhow::Result<()> {
     show_waiting(rt, "a drain makes room", &[drain(0, 0), run(0, 0)], 16)
 }
 
-// That many actions of thread 0, each a fence, and then these moves. Besides there is a store at the same label and a fence at another.
+// That many actions of thread 0, each a fence. Besides there is a store at the same label and a fence at another.
+fn actions(heap: Global, kind: Kind, count: usize) -> Result<Vec<u8>, AllocError> {
+    let mut tape = begun(heap, plain(kind))?;
+    add_instruction(&mut tape, fence([0, 0, 0]))?;
+    add_instruction(&mut tape, store([0, 0, 0], 0, 1))?;
+    add_instruction(&mut tape, fence([0, 1, 0]))?;
+    add_often(&mut tape, run(0, 0), count)?;
+    Ok(tape)
+}
+
+// These moves behind that many actions.
 fn show_actions(
     rt: &HostRuntime,
     name: &str,
@@ -88,11 +98,7 @@ fn show_actions(
     count: usize,
     steps: &[Step],
 ) -> anyhow::Result<()> {
-    let mut tape = begun(rt.alloc(), plain(kind))?;
-    add_instruction(&mut tape, fence([0, 0, 0]))?;
-    add_instruction(&mut tape, store([0, 0, 0], 0, 1))?;
-    add_instruction(&mut tape, fence([0, 1, 0]))?;
-    add_often(&mut tape, run(0, 0), count)?;
+    let mut tape = actions(rt.alloc(), kind, count)?;
     add_steps(&mut tape, steps)?;
     show_tape(rt, name, tape.as_slice())
 }
@@ -113,6 +119,8 @@ pub(super) fn show(rt: &HostRuntime) -> anyhow::Result<()> {
     show_stores(rt)?;
     show_actions(rt, "6: 257 actions", Kind::Queue, 257, &[])?;
     show_actions(rt, "6: 65534 bytes", Kind::Queue, 10911, &[])?;
+    let most = actions(rt.alloc(), Kind::Queue, 10911)?;
+    show_behind(rt, "6: 65536 bytes", most.as_slice(), &[6, 0])?;
     show_actions(rt, "6: 65540 bytes", Kind::Queue, 10912, &[])?;
     show_actions(rt, "4 before 6", Kind::Queue, 256, &[run(1, 0)])?;
     show_actions(rt, "5 before 6", Kind::Queue, 256, &[run(0, 2)])?;
