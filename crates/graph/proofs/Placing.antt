@@ -1,8 +1,8 @@
 -- How the order grows by one node, why the node that is placed is the right one, and what stands when none is ready.
-use Rattle.std.proofs.Common.{◌≡◌, ℕ, zero, suc, ◌<◌, ◌≤◌, Bool, true, false, not, List, [], ◌∷◌, ◌++◌, Some, None, length, get_or, take, drop, set, replicate, sym, refl, ap, ◌∙◌, subst, inl, inr, arith, below_more}
+use Rattle.std.proofs.Common.{◌≡◌, ℕ, ◌+◌, ◌<◌, ◌≤◌, Bool, true, false, not, List, [], ◌∷◌, ◌++◌, Some, None, length, get_or, take, drop, set, replicate, sym, refl, ap, ◌∙◌, subst, inl, inr, arith, below_more}
 use Rattle.std.specs.List.{Contains, position, position_or_len}
 use Rattle.std.proofs.lemmas.List.Elements.{Contains-append_left, Contains-push, Contains-push_cases}
-use Rattle.std.proofs.lemmas.List.{length-set, length-append, length-map, length_push, get_or-set_same, get_or-set_other, get_or_append_left, get_or_push, get_or_past, length-replicate, take-append-le, take_at, drop_at, map-set}
+use Rattle.std.proofs.lemmas.List.{length-set, length-append, length-map, length_push, map-append, replicate_more, get_or-set_same, get_or-set_other, get_or_append_left, get_or_push, get_or_past, length-replicate, take-append-le, take_at, drop_at, map-set}
 use Rattle.std.proofs.lemmas.List.Quantifiers.{position-Some}
 use Rattle.std.proofs.lemmas.List.Sums.{fails_before_first}
 use Rattle.std.proofs.lemmas.Bool.{cases_eq, cases_lt, cases_Bool, both_ways, lt-ltb, cond-true, not-false, not-true}
@@ -145,12 +145,35 @@ put_begun joins size s t v begun next longer same blocked = record {
     last : Next joins size (take (length before) (before ++ v ∷ [])) (get_or (before ++ v ∷ []) (length before) 0)
     last = next_same joins size _ _ _ _ (take_at before (v ∷ []) (length before) refl) (get_or_push before v 0 (length before) refl) next
 
--- Before a node is placed, every node may stand behind the first.
-pub nothing_movable : (joins : ℕ → ℕ → Bool) (size : ℕ) (placed : List Bool) (v : ℕ) (x : Standing) → x ≡ Behind 0 → Movable joins size placed 0 v x
-nothing_movable joins size placed v x e = record {
-  there = λ e' u below leads. absurd (omega arith);
-  elsewhere = λ ne. absurd (ne e);
+-- The standings of the first n nodes before any is placed.
+pub record First (joins : ℕ → ℕ → Bool) (size n : ℕ) (standings : List Standing) : Type 0 where
+  pub many : length standings ≡ n
+  pub unmarked : marks standings ≡ replicate n false
+  pub stand : (v : ℕ) → v < n → Stands joins size (replicate size false) v (get_or standings v Placed)
+
+pub first_none : (joins : ℕ → ℕ → Bool) (size : ℕ) (standings : List Standing) → standings ≡ [] → First joins size 0 standings
+first_none joins size standings none = record {
+  many = ap (λ (xs : List Standing). length xs) none;
+  unmarked = ap marks none;
+  stand = λ v l. absurd (omega arith);
 }
+
+-- The standing of the next node is put behind them.
+pub first_more : (joins : ℕ → ℕ → Bool) (size n : ℕ) (standings : List Standing) (x : Standing) → First joins size n standings
+    → is_placed x ≡ false → Stands joins size (replicate size false) n x → First joins size (n + 1) (standings ++ x ∷ [])
+first_more joins size n standings x f unplaced stands = record {
+  many = omega (arith, length-append standings (x ∷ []), f.many);
+  unmarked = map-append is_placed standings (x ∷ []) ∙ ap (λ (b : Bool). marks standings ++ b ∷ []) unplaced
+      ∙ ap (λ (ms : List Bool). ms ++ false ∷ []) f.unmarked ∙ replicate_more n false;
+  stand = below_more _ _
+      (λ v l. subst (Stands joins size (replicate size false) v) (sym (get_or_append_left standings (x ∷ []) Placed v (omega (arith, f.many)))) (f.stand v l))
+      (subst (Stands joins size (replicate size false) n) (sym (get_or_push standings x Placed n f.many)) stands);
+}
+
+-- Those of all nodes say how each stands.
+pub first_blocked : (joins : ℕ → ℕ → Bool) (size : ℕ) (standings : List Standing) → First joins size size standings → Blocked joins size standings
+first_blocked joins size standings f v l =
+    subst (λ (ms : List Bool). Stands joins size ms v (get_or standings v Placed)) (sym f.unmarked) (f.stand v l)
 
 -- Before a node is placed, the order and the marks agree.
 pub nothing_begun : (joins : ℕ → ℕ → Bool) (size : ℕ) (s : Sorting) → size ≤ 256 → s.order.items ≡ []
@@ -287,8 +310,3 @@ stuck_closed joins size s begun none = record {
       let here = (stuck_behind joins size s begun none v unplaced).1 in
       (omega (arith, begun.sized, here.within), here.unplaced);
 }
-
--- Before a node is placed, none is marked.
-pub marks_none : (n b : ℕ) → marks (replicate n (Behind b)) ≡ replicate n false
-marks_none zero b = refl
-marks_none (suc n) b = ap (λ (ms : List Bool). false ∷ ms) (marks_none n b)

@@ -1,9 +1,10 @@
 -- What the search has found while the edges out of some nodes are still to be followed, and why in the end it has found
 -- every node that a chain leads to.
-use Rattle.std.proofs.Common.{◌≡◌, ℕ, ◌+◌, ◌<◌, ◌≤◌, Bool, true, false, ◌⊎◌, List, [], ◌∷◌, ◌++◌, length, get_or, set, replicate, sym, refl, ap, ◌∙◌, subst, inl, inr, arith, below_more}
+use Rattle.std.proofs.Common.{◌≡◌, ℕ, ◌+◌, ◌<◌, ◌≤◌, Bool, true, false, ◌⊎◌, List, [], ◌∷◌, ◌++◌, length, get_or, drop, drop-cons, set, replicate, sym, refl, ap, ◌∙◌, subst, inl, inr, arith, below_more}
 use Rattle.std.specs.List.{Contains}
 use Rattle.std.proofs.lemmas.List.{length-set, length-append, length-replicate, get_or-set_same, get_or-set_other, get_or-replicate, get_or_past}
-use Rattle.std.proofs.lemmas.List.Elements.{Contains-append_left, Contains-push, Contains-push_cases}
+use Rattle.std.proofs.lemmas.List.Elements.{Contains-append_left, Contains-append_right, Contains-append_cases, Contains-push, Contains-push_cases}
+use Rattle.std.proofs.Math.Numerals.{suc-eq-add-one}
 use Rattle.std.proofs.lemmas.Bool.{cases_eq, cases_lt, both_ways}
 use Rattle.graph.specs.Chains.{Chain}
 use Rattle.graph.specs.Chains.Chain.{edge, onward}
@@ -78,8 +79,14 @@ searched_first joins start before todo none first = record {
     only v (inl at) = absurd (omega (arith, at.1))
     only v (inr e) = e
 
--- The last node of the list is taken: its edges are still to be followed.
-pub searched_taken : (joins : ℕ → ℕ → Bool) (start : ℕ) (marks : List Bool) (old todo : List ℕ) (from : ℕ) → old ≡ todo ++ from ∷ []
+-- The node of a list at the place n, and those behind it.
+pub next_of : (found seen : List ℕ) (n d : ℕ) → seen ≡ found → n < length found → drop n found ≡ get_or seen n d ∷ drop (n + 1) found
+next_of found seen n d is within =
+    subst (λ (ns : List ℕ). drop n found ≡ get_or ns n d ∷ drop (n + 1) found) (sym is)
+    (drop-cons found n d within ∙ ap (λ (k : ℕ). get_or found n d ∷ drop k found) (suc-eq-add-one n))
+
+-- The next node of the list is taken: its edges are still to be followed.
+pub searched_taken : (joins : ℕ → ℕ → Bool) (start : ℕ) (marks : List Bool) (old todo : List ℕ) (from : ℕ) → old ≡ from ∷ todo
     → Searched joins start marks (Contains old) → Searched joins start marks (λ v. Contains todo v ⊎ (v ≡ from))
 searched_taken joins start marks old todo from e s = record {
   size = s.size;
@@ -87,18 +94,22 @@ searched_taken joins start marks old todo from e s = record {
   comes = λ v at. s.comes v (subst (λ (ns : List ℕ). Contains ns v) (sym e) (there v at));
   left = λ v come.
       elim (s.left v come) [
-        | inl at ↦ inl (here v (Contains-push_cases todo from v (subst (λ (ns : List ℕ). Contains ns v) e at)))
+        | inl at ↦ inl (here v (Contains-append_cases (from ∷ []) todo v (subst (λ (ns : List ℕ). Contains ns v) e at)))
         | inr all ↦ inr all
       ];
 }
   where
-    there : (v : ℕ) → Contains todo v ⊎ (v ≡ from) → Contains (todo ++ from ∷ []) v
-    there v (inl at) = Contains-append_left todo (from ∷ []) v at
-    there v (inr is) = subst (Contains (todo ++ from ∷ [])) (sym is) (Contains-push todo from)
+    there : (v : ℕ) → Contains todo v ⊎ (v ≡ from) → Contains (from ∷ todo) v
+    there v (inl at) = Contains-append_right (from ∷ []) todo v at
+    there v (inr is) = subst (Contains (from ∷ todo)) (sym is) (Contains-append_left (from ∷ []) todo from (Contains-push [] from))
 
-    here : (v : ℕ) → Contains todo v ⊎ (from ≡ v) → Contains todo v ⊎ (v ≡ from)
-    here v (inl at) = inl at
-    here v (inr is) = inr (sym is)
+    one : (v : ℕ) → Contains {X = ℕ} [] v ⊎ (from ≡ v) → v ≡ from
+    one v (inl at) = absurd (omega (arith, at.1))
+    one v (inr is) = sym is
+
+    here : (v : ℕ) → Contains (from ∷ []) v ⊎ Contains todo v → Contains todo v ⊎ (v ≡ from)
+    here v (inl at) = inr (one v (Contains-push_cases [] from v at))
+    here v (inr at) = inl at
 
 -- The edges out of the node that was taken have been followed.
 pub searched_followed : (joins : ℕ → ℕ → Bool) (start : ℕ) (marks : List Bool) (todo : List ℕ) (from : ℕ)

@@ -2,7 +2,7 @@
 // node that is not placed yet is ready, or waits for its blocker, the lowest node that is not placed and has an edge to it.
 // The blockers only move up, so that each ordered pair of nodes is asked of at most once; and where every node that is left
 // has a blocker, the way back from blocker to blocker comes to a ring.
-ghost use Rattle.std.specs.Prelude.{◌≡◌, ℕ, ◌+◌, ◌<◌, ◌≤◌, false, not, length, drop, position, slice_index_or};
+ghost use Rattle.std.specs.Prelude.{◌≡◌, ℕ, ◌+◌, ◌<◌, ◌≤◌, false, not, length, drop, position, replicate, slice_index_or};
 ghost use Rattle.graph.specs.declared.ordering.Standing.TheVariants.{Placed};
 ghost use Rattle.graph.specs.Placing.{is_placed, is_ready, marks, Passed, Stands, Movable, Blocked, Begun, NoneReady, Unplaced};
 ghost use Rattle.graph.specs.Rings.{blocker_of, Closed, OnRing, Turn, Backward};
@@ -18,14 +18,15 @@ pub enum Written {
     Ring(usize),
 }
 
-// How a node stands: in the order; ready, since every node with an edge to it is there; or behind its blocker.
+// How a node stands: in the order; ready, since every node with an edge to it is there; or behind its blocker, whose number is a byte, since
+// there are at most 256 nodes: so the standings of all take up little.
 #[derive(Clone, Copy, PartialEq, Eq, Default)]
 enum Standing {
     // The default is what the unused places of a list hold.
     #[default]
     Placed,
     Ready,
-    Behind(usize),
+    Behind(u8),
 }
 
 // The nodes placed so far, in their order, and how each node stands. The graph is lent to each call and not held: the search for the
@@ -77,19 +78,32 @@ pub fn order_or_ring<G: Graph>(graph: &G, list: &mut [usize]) -> Option<Written>
     }
 }
 
+// How a node stands before any is placed.
+fn first_standing<G: Graph>(graph: &G, node: usize) -> Standing
+    ensures unplaced { is_placed result ≡ false }
+    ensures stands { Stands (G.Graph.joins graph.now) (G.Graph.size graph.now) (replicate (G.Graph.size graph.now) false) node result }
+{
+    let mut nodes = 0..graph.nodes();
+    match nodes.find(|first| graph.edge(*first, node)) {
+        Some(first) => Standing::Behind(first as u8),
+        None => Standing::Ready,
+    }
+}
+
 impl Sorting {
     // Places nodes as long as one is ready.
     fn new<G: Graph>(graph: &G) -> Self
         ensures begun { Begun (G.Graph.joins graph.now) (G.Graph.size graph.now) result }
         ensures stuck { NoneReady result.standings.items }
     {
-        let mut standings = ArrayVec::from([Standing::Behind(0); 256]);
-        standings.truncate(graph.nodes());
+        let mut standings = ArrayVec::new();
+        for place in 0..graph.nodes() {
+            standings.push(first_standing(graph, place));
+        }
         let mut sorting = Sorting {
             order: ArrayVec::new(),
             standings,
         };
-        sorting.move_up(graph, 0);
         while let Some(node) = sorting.lowest_ready() {
             sorting.place(graph, node);
         }
@@ -105,11 +119,11 @@ impl Sorting {
     {
         self.order.push(node);
         self.standings[node] = Standing::Placed;
-        self.move_up(graph, node);
+        self.move_up(graph, node as u8);
     }
 
     // Moves every blocker that stands at `at` up, to the lowest node from there on that blocks.
-    fn move_up<G: Graph>(&mut self, graph: &G, at: usize)
+    fn move_up<G: Graph>(&mut self, graph: &G, at: u8)
         requires sized { length self.old.standings.items ≡ G.Graph.size graph.now }
         requires movable { (v : ℕ) → v < G.Graph.size graph.now
             → Movable (G.Graph.joins graph.now) (G.Graph.size graph.now) (marks self.old.standings.items) at v (slice_index_or self.old.standings.items v Placed) }
@@ -120,7 +134,7 @@ impl Sorting {
         // By number: while a node moves, the graph and the standings of the others are asked.
         for node in 0..graph.nodes() {
             if self.standings[node] == Standing::Behind(at) {
-                self.standings[node] = self.standing_from(graph, at, node);
+                self.standings[node] = self.standing_from(graph, at as usize, node);
             }
         }
     }
@@ -132,9 +146,11 @@ impl Sorting {
         ensures unplaced { is_placed result ≡ false }
         ensures stands { Stands (G.Graph.joins graph.now) (G.Graph.size graph.now) (marks self.now.standings.items) node result }
     {
-        (from..graph.nodes())
-            .find(|blocker| !self.is_placed(*blocker) && graph.edge(*blocker, node))
-            .map_or(Standing::Ready, |blocker| Standing::Behind(blocker))
+        let mut nodes = from..graph.nodes();
+        match nodes.find(|blocker| !self.is_placed(*blocker) && graph.edge(*blocker, node)) {
+            Some(blocker) => Standing::Behind(blocker as u8),
+            None => Standing::Ready,
+        }
     }
 
     // Whether the node is placed.
@@ -172,7 +188,7 @@ impl Stuck {
         ensures unplaced { Unplaced self.now.standings.items result }
     {
         match self.standings[node] {
-            Standing::Behind(blocker) => blocker,
+            Standing::Behind(blocker) => blocker as usize,
             _ => unreachable!(),
         }
     }

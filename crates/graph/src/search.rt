@@ -11,17 +11,21 @@ pub fn reached<G: Graph>(graph: &G, start: usize) -> [bool; 256]
     ensures complete { (node : ℕ) → Chain (G.Graph.joins graph.now) start node → slice_index_or result node false ≡ true }
 {
     let mut marks = [false; 256];
-    // The nodes whose edges are still to be followed.
-    let mut todo = ArrayVec::<usize, 256>::new();
-    todo.push(start);
-    while let Some(from) = todo.pop() {
+    // `start`, then the nodes found, in the order in which they are found: their edges are followed in that order.
+    let mut found = ArrayVec::<usize, 257>::new();
+    found.push(start);
+    let mut next = 0;
+    // By place, since the list grows while it is gone through.
+    while next < found.len() {
+        let from = found[next];
+        next += 1;
         // The graph has numbers of nodes, and no list of them.
         for to in 0..graph.nodes() {
             if !marks[to] && graph.edge(from, to) {
                 marks[to] = true;
                 // The edges out of `start` are followed at the beginning.
                 if to != start {
-                    todo.push(to);
+                    found.push(to);
                 }
             }
         }
