@@ -18,7 +18,7 @@ else_some None v = refl
 else_some (Some w) v = refl
 
 -- There is a youngest store to a cell exactly where there is an oldest.
-newest_waits : (c : ℕ) (ss : List Store) → is_some (newest_to c ss) ≡ waits_to c ss
+pub newest_waits : (c : ℕ) (ss : List Store) → is_some (newest_to c ss) ≡ waits_to c ss
 newest_waits c [] = refl
 newest_waits c (s ∷ ss) = go (s.cell == c) (newest_waits c ss)
   where
@@ -27,7 +27,7 @@ newest_waits c (s ∷ ss) = go (s.cell == c) (newest_waits c ss)
     go false later = ap is_some (else_none (newest_to c ss)) ∙ later
 
 -- A store to a chosen cell is found.
-chosen_found : (chosen : List Bool) (c : ℕ) (ss : List Store) → slice_index_or chosen c false ≡ true → waits_to c ss ≡ true → has_chosen chosen ss ≡ true
+pub chosen_found : (chosen : List Bool) (c : ℕ) (ss : List Store) → slice_index_or chosen c false ≡ true → waits_to c ss ≡ true → has_chosen chosen ss ≡ true
 chosen_found chosen c [] strong waits = absurd (true≢false (sym waits))
 chosen_found chosen c (s ∷ ss) strong waits = go (s.cell == c) refl waits (chosen_found chosen c ss strong)
   where
@@ -36,7 +36,7 @@ chosen_found chosen c (s ∷ ss) strong waits = go (s.cell == c) refl waits (cho
     go false other w later = or_right (slice_index_or chosen s.cell false) (has_chosen chosen ss) (later w)
 
 -- Where no store waits for a chosen cell, none is to one.
-chosen_none : (chosen : List Bool) (ss : List Store) → ((c : ℕ) → slice_index_or chosen c false ≡ true → waits_to c ss ≡ false) → has_chosen chosen ss ≡ false
+pub chosen_none : (chosen : List Bool) (ss : List Store) → ((c : ℕ) → slice_index_or chosen c false ≡ true → waits_to c ss ≡ false) → has_chosen chosen ss ≡ false
 chosen_none chosen ss none = or_from_places (has_chosen chosen) (λ s. slice_index_or chosen s.cell false) refl (λ _ _. refl) ss (store 0 0) at
   where
     at : (i : ℕ) → i < length ss → slice_index_or chosen (slice_index_or ss i (store 0 0)).cell false ≡ false
