@@ -1,6 +1,6 @@
 -- A table that marks exactly the attack pairs lists exactly them, in order, and so the call answers.
-use Rattle.std.proofs.Common.{◌≡◌, ℕ, zero, suc, ◌+◌, ◌-◌, ◌*◌, ◌/◌, ◌%◌, ◌<◌, Bool, true, false, List, [], ◌∷◌, ◌++◌, length, get_or, sym, refl, ap, ◌∙◌, subst, add-zero, zero-add, arith}
-use Rattle.std.specs.List.{All, Contains, flat_map}
+use Rattle.std.proofs.Common.{◌≡◌, ℕ, zero, suc, ◌+◌, ◌-◌, ◌*◌, ◌/◌, ◌%◌, ◌<◌, ◌≤◌, Bool, true, false, List, [], ◌∷◌, ◌++◌, length, map, get_or, sym, refl, ap, ◌∙◌, subst, add-zero, zero-add, arith}
+use Rattle.std.specs.List.{All, Contains, enumerate_from, filter, flat_map}
 use Rattle.std.proofs.lemmas.List.{get_or_append_left, get_or-append_right, get_or_past}
 use Rattle.std.proofs.lemmas.List.Elements.{All-nil, All-cons, All-head, All-tail, Contains-append_right}
 use Rattle.std.proofs.lemmas.Bool.{true≢false}
@@ -8,7 +8,15 @@ use Rattle.std.proofs.lemmas.Grind.{common_steps}
 use Rattle.program.specs.declared.lines.Line.{Line}
 use Rattle.attacks.specs.declared.pair.Pair.{Pair}
 use Rattle.attacks.specs.Attacks.{Attack, AttackPairs, Before, Ascending}
-use Rattle.attacks.specs.Tables.{Long, RightTable, marked_pairs, pair, place_pair, table_pairs}
+use Rattle.attacks.specs.Tables.{Long, RightTable, pair, row_pairs, table_pairs}
+
+-- The pair of the place k of a whole table, counted row by row: its row is a store, its place in the row a load.
+abbrev place_pair : ℕ → Pair
+place_pair k = pair (k / 128) (k % 128)
+
+-- So of the marked places, counted from i.
+abbrev marked_pairs : ℕ → List Bool → List Pair
+marked_pairs i marks = map (λ p. place_pair p.0) (filter (λ p. p.1) (enumerate_from i marks))
 
 -- One step on from i is one place less from i + 1.
 add_one_in : (i k : ℕ) → i + suc k ≡ i + 1 + k
@@ -67,11 +75,40 @@ in_row rows long s l marked = grind (arith, common_steps, get_or_past, long s []
 pair_at : (s l : ℕ) → l < 128 → place_pair (0 + (128 * s + l)) ≡ pair s l
 pair_at s l within = grind arith
 
+-- The pairs of a row are those of the places at which it stands in the whole table.
+row_places : (s i : ℕ) (marks : List Bool) → i + length marks ≤ 128 → map (λ p. pair s p.0) (filter (λ p. p.1) (enumerate_from i marks)) ≡ marked_pairs (128 * s + i) marks
+row_places s i [] within = refl
+row_places s i (true ∷ marks) within =
+    let here : pair s i ≡ place_pair (128 * s + i) = grind arith in
+    let next : 128 * s + (i + 1) ≡ 128 * s + i + 1 = omega arith in
+    ap (λ p. p ∷ map (λ q. pair s q.0) (filter (λ q. q.1) (enumerate_from (i + 1) marks))) here
+    ∙ ap (λ ps. place_pair (128 * s + i) ∷ ps) (row_places s (i + 1) marks (omega arith) ∙ ap (λ k. marked_pairs k marks) next)
+row_places s i (false ∷ marks) within =
+    let next : 128 * s + (i + 1) ≡ 128 * s + i + 1 = omega arith in
+    row_places s (i + 1) marks (omega arith) ∙ ap (λ k. marked_pairs k marks) next
+
+marked_append : (i : ℕ) (xs ys : List Bool) → marked_pairs i (xs ++ ys) ≡ marked_pairs i xs ++ marked_pairs (i + length xs) ys
+marked_append i [] ys = ap (λ k. marked_pairs k ys) (sym (add-zero i))
+marked_append i (true ∷ xs) ys =
+    ap (λ ps. place_pair i ∷ ps) (marked_append (i + 1) xs ys ∙ ap (λ k. marked_pairs (i + 1) xs ++ marked_pairs k ys) (sym (add_one_in i (length xs))))
+marked_append i (false ∷ xs) ys = marked_append (i + 1) xs ys ∙ ap (λ k. marked_pairs (i + 1) xs ++ marked_pairs k ys) (sym (add_one_in i (length xs)))
+
+-- So for all rows, if each is long.
+rows_places : (s : ℕ) (rows : List (List Bool)) → All Long rows → flat_map (λ r. row_pairs r.0 r.1) (enumerate_from s rows) ≡ marked_pairs (128 * s) (flat_map (λ row. row) rows)
+rows_places s [] long = refl
+rows_places s (row ∷ rows) long =
+    let full : length row ≡ 128 = All-head Long row rows long in
+    let flat = flat_map (λ (r : List Bool). r) rows in
+    let next : 128 * (s + 1) ≡ 128 * s + length row = omega arith in
+    ap (λ ps. ps ++ flat_map (λ r. row_pairs r.0 r.1) (enumerate_from (s + 1) rows)) (row_places s 0 row (omega arith) ∙ ap (λ k. marked_pairs k row) (add-zero (128 * s)))
+    ∙ ap (λ ps. marked_pairs (128 * s) row ++ ps) (rows_places (s + 1) rows (All-tail Long row rows long) ∙ ap (λ k. marked_pairs k flat) next)
+    ∙ sym (marked_append (128 * s) row flat)
+
 -- A right table lists exactly the attack pairs, in order.
 pub table_attacks : (ls : List Line) (rows : List (List Bool)) → RightTable ls rows → AttackPairs ls (table_pairs rows)
 table_attacks ls rows right =
     let flat = flat_map (λ (row : List Bool). row) rows in
-    record {
+    subst (AttackPairs ls) (sym (rows_places 0 rows right.long)) (record {
       sound = pairs_all (λ p. Attack ls p.store p.load) 0 flat (λ k m.
           let place : 128 * (k / 128) + k % 128 ≡ k = omega arith in
           subst (λ n. Attack ls (n / 128) (n % 128)) (sym (zero-add k))
@@ -79,7 +116,7 @@ table_attacks ls rows right =
       complete = λ p attack.
           let marked = (right.right p.store).all p.load attack in
           let within = in_row rows right.long p.store p.load marked in
-          subst (Contains (table_pairs rows)) (pair_at p.store p.load within)
+          subst (Contains (marked_pairs 0 flat)) (pair_at p.store p.load within)
           (pairs_complete 0 flat (128 * p.store + p.load) (flat_at rows right.long p.store p.load within ∙ marked));
       ascending = pairs_ascend 0 flat;
-    }
+    })

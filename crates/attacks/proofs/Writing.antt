@@ -1,15 +1,66 @@
 -- The pairs of the marked places, as they are counted and written.
-use Rattle.std.proofs.Common.{◌≡◌, ℕ, zero, suc, ◌+◌, ◌<◌, ◌≤◌, Bool, true, false, List, [], ◌∷◌, ◌++◌, length, get_or, take, drop, set, refl, ap, ◌∙◌, zero-add, arith}
-use Rattle.std.specs.List.{enumerate_from, filter}
+use Rattle.std.proofs.Common.{◌≡◌, ℕ, zero, suc, ◌+◌, ◌*◌, map, ltb, ◌<◌, ◌≤◌, Bool, true, false, List, [], ◌∷◌, ◌++◌, length, get_or, take, drop, set, Option, cond, refl, sym, ap, ◌∙◌, subst, zero-add, arith, length-append}
+use Rattle.std.specs.List.{enumerate_from, filter, flat_map, sum_by}
+use Rattle.std.specs.Int.{from_bool}
+use Rattle.std.proofs.lemmas.Bool.Decides.{nat_tests}
+use Rattle.std.proofs.lemmas.Iterator.{YieldsList}
 use Rattle.std.proofs.lemmas.List.{take_all}
 use Rattle.std.proofs.lemmas.List.FromFn.{get_or-enumerate_from, length-enumerate_from}
-use Rattle.attacks.specs.Tables.{marked_pairs}
+use Rattle.std.proofs.lemmas.List.Sums.{sum_by-append, sum_by-cons}
+use Rattle.attacks.specs.declared.pair.Pair.{Pair}
+use Rattle.attacks.specs.Tables.{pair, row_pairs, table_pairs}
 
--- There are as many as there are marks.
-pub marked_count : (i : ℕ) (marks : List Bool) → length (marked_pairs i marks) ≡ length (filter (λ b. b) marks)
-marked_count i [] = refl
-marked_count i (true ∷ marks) = ap suc (marked_count (i + 1) marks)
-marked_count i (false ∷ marks) = marked_count (i + 1) marks
+-- A row has as many as it has marks, counted one by one, from whatever place on.
+marks_from : (s i : ℕ) (marks : List Bool) → sum_by from_bool marks ≡ length (map (λ p. pair s p.0) (filter (λ p. p.1) (enumerate_from i marks)))
+marks_from s i [] = refl
+marks_from s i (true ∷ marks) = omega (arith, sum_by-cons from_bool true marks, marks_from s (i + 1) marks)
+marks_from s i (false ∷ marks) = omega (arith, sum_by-cons from_bool false marks, marks_from s (i + 1) marks)
+
+pub row_count : (s : ℕ) (marks : List Bool) → sum_by from_bool marks ≡ length (row_pairs s marks)
+row_count s marks = marks_from s 0 marks
+
+-- So at most as many as it has places.
+pub row_few : (marks : List Bool) → sum_by from_bool marks ≤ length marks
+row_few [] = omega arith
+row_few (true ∷ marks) = omega (arith, sum_by-cons from_bool true marks, row_few marks)
+row_few (false ∷ marks) = omega (arith, sum_by-cons from_bool false marks, row_few marks)
+
+-- A table has as many as its rows together.
+rows_from : (s : ℕ) (rows : List (List Bool)) → sum_by (λ row. length (row_pairs 0 row)) rows ≡ length (flat_map (λ r. row_pairs r.0 r.1) (enumerate_from s rows))
+rows_from s [] = refl
+rows_from s (row ∷ rows) =
+    omega (
+      arith,
+      sum_by-cons (λ r. length (row_pairs 0 r)) row rows,
+      length-append (row_pairs s row) (flat_map (λ r. row_pairs r.0 r.1) (enumerate_from (s + 1) rows)),
+      row_count 0 row,
+      row_count s row,
+      rows_from (s + 1) rows,
+    )
+
+pub table_count : (rows : List (List Bool)) → sum_by (λ row. length (row_pairs 0 row)) rows ≡ length (table_pairs rows)
+table_count rows = rows_from 0 rows
+
+-- Rows with no mark may be left out.
+abbrev pub has_marks : ℕ × List Bool → Bool
+has_marks r = ltb 0 (length (row_pairs 0 r.1))
+
+empty : (ps : List Pair) → length ps ≡ 0 → ps ≡ []
+empty [] none = refl
+empty (p ∷ ps) none = absurd (omega (arith, none))
+
+left_out_if : (b : Bool) (r : ℕ × List Bool) (rs : List (ℕ × List Bool)) → has_marks r ≡ b → flat_map (λ r. row_pairs r.0 r.1) (filter has_marks rs) ≡ flat_map (λ r. row_pairs r.0 r.1) rs → flat_map (λ r. row_pairs r.0 r.1) (cond b (r ∷ filter has_marks rs) (filter has_marks rs)) ≡ row_pairs r.0 r.1 ++ flat_map (λ r. row_pairs r.0 r.1) rs
+left_out_if true r rs some same = ap (λ ps. row_pairs r.0 r.1 ++ ps) same
+left_out_if false r rs none same =
+    let few : length (row_pairs 0 r.1) ≡ 0 = grind (arith, nat_tests) in
+    same ∙ ap (λ ps. ps ++ flat_map (λ r. row_pairs r.0 r.1) rs) (sym (empty (row_pairs r.0 r.1) (omega (arith, few, row_count 0 r.1, row_count r.0 r.1))))
+
+left_out : (rs : List (ℕ × List Bool)) → flat_map (λ r. row_pairs r.0 r.1) (filter has_marks rs) ≡ flat_map (λ r. row_pairs r.0 r.1) rs
+left_out [] = refl
+left_out (r ∷ rs) = left_out_if (has_marks r) r rs refl (left_out rs)
+
+pub yields_table : {S A : Type 0} {steps : S → Option A → S → Type 0} {v : A → Pair} {s : S} (rows : List (List Bool)) → YieldsList steps v s (flat_map (λ r. row_pairs r.0 r.1) (filter has_marks (enumerate_from 0 rows))) → YieldsList steps v s (table_pairs rows)
+yields_table {steps = steps} {v = v} {s = s} rows road = subst (YieldsList steps v s) (left_out (enumerate_from 0 rows)) road
 
 -- One more, written behind those that stand there.
 written_next : {X : Type 0} (ps before : List X) (n : ℕ) (x : X) → n < length ps → length ps ≤ length before → x ≡ get_or ps n x → set (take n ps ++ drop n before) n x ≡ take (suc n) ps ++ drop (suc n) before

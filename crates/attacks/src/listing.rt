@@ -1,6 +1,6 @@
 // Writing the marked places of a table as a list of pairs, row by row.
 ghost use Rattle.std.specs.Prelude.{◌≡◌, ◌≤◌, ◌++◌, length, drop};
-ghost use Rattle.attacks.specs.Tables.{place_pair, table_pairs};
+ghost use Rattle.attacks.specs.Tables.{row_pairs, table_pairs};
 
 use super::pair::Pair;
 use super::table::Table;
@@ -9,11 +9,15 @@ use super::table::Table;
 pub fn count_marks(table: &Table) -> usize
     ensures { result ≡ length (table_pairs table.now) }
 {
-    table
-        .as_flattened()
-        .iter()
-        .filter(|marked| **marked)
-        .count()
+    table.iter().fold(0, |count, row| count + count_row(row))
+}
+
+// How many places of a row are marked: a sum, since it takes no branch at a place, as `filter` and `count` would.
+fn count_row(row: &[bool; 128]) -> usize
+    ensures value { result ≡ length (row_pairs 0 row.now) }
+    ensures bound { result ≤ 128 }
+{
+    row.iter().map(|marked| usize::from(*marked)).sum()
 }
 
 // Writes the marked places in order at the front of the list.
@@ -21,20 +25,14 @@ pub fn write_pairs(table: &Table, list: &mut [Pair])
     requires { length (table_pairs table.now) ≤ length list.old }
     ensures { list.new ≡ table_pairs table.now ++ drop (length (table_pairs table.now)) list.old }
 {
-    let marks = table.as_flattened().iter().enumerate();
-    let pairs = marks
-        .filter(|(_, marked)| **marked)
-        .map(|(place, _)| pair_at(place));
+    let rows = table.iter().enumerate();
+    let pairs = rows.filter(|(_, row)| count_row(row) > 0).flat_map(|(store, row)| {
+        let marks = row.iter().enumerate();
+        let marked = marks.filter(|(_, marked)| **marked);
+        marked.map(move |(load, _)| Pair { store, load })
+    });
     // By place: after `iter_mut` of a slice a proof knows no element.
     for (at, pair) in pairs.enumerate() {
         list[at] = pair;
     }
-}
-
-// The pair of a place, the places of the table counted row by row.
-fn pair_at(place: usize) -> Pair
-    ensures { result ≡ place_pair place }
-{
-    let (store, load) = (place / 128, place % 128);
-    Pair { store, load }
 }
