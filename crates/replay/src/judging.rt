@@ -9,6 +9,7 @@ use super::happens_before::HappensBefore;
 use super::names::Name;
 use super::state::State;
 use super::verdicts::{Verdict, Word};
+use arrayvec::ArrayVec;
 use graph::{Written, order_or_ring};
 use refusal::Refusal;
 
@@ -29,7 +30,11 @@ impl State {
     pub(crate) fn judge(&self, list: &mut [Name]) -> Result<Verdict, Refusal>
         ensures { JudgedIn (present_of self.now) list.old result list.new }
     {
-        let names = self.names();
+        if list.len() < self.count() {
+            return Err(Refusal::TooShort);
+        }
+        let mut names = ArrayVec::new();
+        self.names(&mut names);
         let graph = HappensBefore {
             state: self,
             names: &names,

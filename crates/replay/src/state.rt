@@ -127,17 +127,17 @@ impl State {
         self.cells.get(cell).copied()
     }
 
-    // The names of all actions, thread by thread, so that the lowest action comes first.
-    pub(crate) fn names(&self) -> ArrayVec<Name, MOST>
-        ensures { map name_of result.items ≡ nodes_in (present_of self.now) }
+    // Puts the names of all actions into an empty list, thread by thread, so that the lowest action comes first. The list is lent and
+    // not answered: it is large, and an answer is copied.
+    pub(crate) fn names(&self, names: &mut ArrayVec<Name, MOST>)
+        requires { names.old.items ≡ [] }
+        ensures { map name_of names.new.items ≡ nodes_in (present_of self.now) }
     {
-        let mut names = ArrayVec::new();
         for (thread, own) in self.threads.iter().enumerate() {
             for position in 0..own.len() {
                 names.push(Name { thread, position });
             }
         }
-        names
     }
 
     // How many threads delayed a store of their own.

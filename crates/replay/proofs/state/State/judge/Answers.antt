@@ -1,8 +1,6 @@
-use Rattle.std.proofs.Common.{◌≡◌, ◌≤◌, map, min, length, take, Err, sym, refl, ap, ◌∙◌, subst, arith, length-take, rules}
-use Rattle.std.proofs.lemmas.Result.{err_from_is_err_and}
+use Rattle.std.proofs.Common.{◌≡◌, ◌≤◌, map, min, length, take, ap, ◌∙◌, arith, length-take, rules}
 use Rattle.refusal.specs.declared.Refusal.TheVariants.{TooShort}
 use Rattle.replay.specs.Names.{name_of}
-use Rattle.replay.specs.Verdicts.{JudgedIn}
 use Rattle.replay.specs.Views.{present_of}
 use Rattle.replay.proofs.Judged.{Placed, all_numbered, found_below, names_listed, order_placed, ring_placed, too_few}
 use Rattle.replay.proofs.Stating.{few_in}
@@ -16,7 +14,7 @@ invariant_of-graph c = record { few = c.deref.ensures.1 }
 pub write-requires : goal.write-requires
 write-requires c =
     let own = present_of c.args.self.now in
-    let is = ap (map name_of) c.deref.ensures.0 ∙ c.names-names.ensures in
+    let is = ap (map name_of) c.deref.ensures.0 ∙ c.names.ensures in
     let told = c.match-written.word in
     let new = c.order_or_ring.new.list in
     let some = ok_or_told c.order_or_ring.result TooShort c.in_ok-written.written c.in_ok-written.ensures.value in
@@ -27,7 +25,7 @@ write-requires c =
     ] in
     let size : length new ≡ min (length c.args.list.now) 256 = search rules in
     let fits = length-take told.1 new in
-    let all = all_numbered own c.deref-2.result.now (ap (map name_of) c.deref-2.ensures.0 ∙ c.names-names.ensures) in
+    let all = all_numbered own c.deref-2.result.now (ap (map name_of) c.deref-2.ensures.0 ∙ c.names.ensures) in
     record {
       below = λ k within. let node = found_below own told.0 (take told.1 new) placed.found k within in omega (arith, node, all);
       room = omega (arith, fits, size);
@@ -36,19 +34,17 @@ write-requires c =
 pub returns-in_err-written : goal.returns-in_err-written
 returns-in_err-written c =
     let own = present_of c.args.self.now in
-    let list = c.args.list.now in
-    let is = ap (map name_of) c.deref.ensures.0 ∙ c.names-names.ensures in
+    let is = ap (map name_of) c.deref.ensures.0 ∙ c.names.ensures in
     let gone = ok_or_gone c.order_or_ring.result TooShort c.in_err-written.field-0.0 c.in_err-written.ensures.value in
     let short = too_few own c.deref.result.now is _ c.order_or_ring.new.list c.order_or_ring.result c.order_or_ring.ensures gone.0 in
-    let size : length c.order_or_ring.new.list ≡ min (length list) 256 = search rules in
-    let p = err_from_is_err_and c.from_residual.result c.from_residual.ensures.1 in
-    subst (λ r. JudgedIn own list r list) (sym (p.1 ∙ ap Err p.2)) (omega (arith, short, size, few_in c.args.self.now), gone.1, refl)
+    let size : length c.order_or_ring.new.list ≡ min (length c.args.list.now) 256 = search rules in
+    absurd (omega (arith, short, size, few_in c.args.self.now, c.count.ensures))
 
 pub returns : goal.returns
 returns c =
     let own = present_of c.args.self.now in
-    let is = ap (map name_of) c.deref.ensures.0 ∙ c.names-names.ensures in
-    let is_too = ap (map name_of) c.deref-2.ensures.0 ∙ c.names-names.ensures in
+    let is = ap (map name_of) c.deref.ensures.0 ∙ c.names.ensures in
+    let is_too = ap (map name_of) c.deref-2.ensures.0 ∙ c.names.ensures in
     let told = c.match-written.word in
     let new = c.order_or_ring.new.list in
     let some = ok_or_told c.order_or_ring.result TooShort c.in_ok-written.written c.in_ok-written.ensures.value in
@@ -60,4 +56,4 @@ returns c =
     let size : length new ≡ min (length c.args.list.now) 256 = search rules in
     let fits = length-take told.1 new in
     let room : length (take told.1 new) ≤ length c.args.list.now = omega (arith, fits, size) in
-    (omega (arith, size, placed.enough), names_listed own c.deref-2.result.now is_too c.args.list.now c.write.new.list _ (take told.1 new) placed.found placed.many room c.write.ensures c.delaying.ensures)
+    (omega (arith, c.count.ensures), names_listed own c.deref-2.result.now is_too c.args.list.now c.write.new.list _ (take told.1 new) placed.found placed.many room c.write.ensures c.delaying.ensures)
