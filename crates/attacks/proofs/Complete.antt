@@ -23,7 +23,7 @@ add_one_in : (i k : ℕ) → i + suc k ≡ i + 1 + k
 add_one_in i k = omega arith
 
 -- a place is marked
-abbrev Marked : List Bool → ℕ → Type 0
+abbrev pub Marked : List Bool → ℕ → Type 0
 Marked marks k = get_or marks k false ≡ true
 
 -- What holds of the pair of every marked place holds of all pairs.

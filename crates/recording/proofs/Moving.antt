@@ -118,11 +118,11 @@ module _ (rules : Rules) (lawful : Lawful rules) (ls : List Line) (bs : List ℕ
   going_over here s rule = going.reads s rule ∙ over (moving s ls ms) place.index place.byte bs here
 
   -- and the judgement of the replay is that of the recording, a verdict
-  going_judged : Peeked bs place (Ok None) → (before after : List Name) (v : Verdict) → JudgedHeld h before (Ok v) after → (s : Setup') → rules ≡ rules_of s → WrittenAs (moving_from bs start ls [] s) before v after
+  pub going_judged : Peeked bs place (Ok None) → (before after : List Name) (v : Verdict) → JudgedHeld h before (Ok v) after → (s : Setup') → rules ≡ rules_of s → WrittenAs (moving_from bs start ls [] s) before v after
   going_judged here before after v so s rule = subst (λ read. WrittenAs read before v after) (sym (going_over here s rule)) (verdict_read rules lawful ls ms h going.in_step s place.index before after v so)
 
   -- or a refusal.
-  going_unjudged : place.byte ≤ length bs → Peeked bs place (Ok None) → (before after : List Name) (e : Refusal) → JudgedHeld h before (Err e) after → (s : Setup') → rules ≡ rules_of s → (faulty (moving_from bs start ls [] s) (length bs) (length before) ≡ Some (fault_at e place.index place.byte)) × (after ≡ before)
+  pub going_unjudged : place.byte ≤ length bs → Peeked bs place (Ok None) → (before after : List Name) (e : Refusal) → JudgedHeld h before (Err e) after → (s : Setup') → rules ≡ rules_of s → (faulty (moving_from bs start ls [] s) (length bs) (length before) ≡ Some (fault_at e place.index place.byte)) × (after ≡ before)
   going_unjudged within here before after e so s rule =
       let told = refusal_read rules lawful ls ms h going.in_step before after e so in
       let end : length bs ≡ place.byte = omega (arith, passed_all place.byte bs here, within) in (

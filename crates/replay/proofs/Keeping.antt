@@ -15,7 +15,7 @@ IsFirst p xs None = (k : ℕ) (d : Action) → k < length xs → p (get_or xs k 
 IsFirst p xs (Some i) = (i < length xs) × (((d : Action) → p (get_or xs i d) ≡ true) × ((k : ℕ) (d : Action) → k < i → p (get_or xs k d) ≡ false))
 
 -- Where no test passes, none is the oldest.
-oldest_none : (c i : ℕ) (xs : List Action) → IsFirst (λ x. left_waiting c (noted_of x)) xs None → oldest_left i c (map noted_of xs) ≡ None
+pub oldest_none : (c i : ℕ) (xs : List Action) → IsFirst (λ x. left_waiting c (noted_of x)) xs None → oldest_left i c (map noted_of xs) ≡ None
 oldest_none c i [] none = refl
 oldest_none c i (x ∷ xs) none =
     ap (λ b. cond b (Some i) (oldest_left (i + 1) c (map noted_of xs))) (none 0 x (omega arith))
