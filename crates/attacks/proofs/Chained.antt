@@ -1,9 +1,9 @@
 -- A chain of the graph's edges is a path through the code, so what the search reaches from a store are the loads of its
 -- attack pairs.
-use Rattle.std.proofs.Common.{◌≡◌, ℕ, ◌<◌, ◌≤◌, Bool, true, false, not, ◌&&◌, List, [], length, get_or, replicate, Some, None, Option, sym, refl, ap, ◌∙◌, ⊎_elim, arith}
+use Rattle.std.proofs.Common.{◌≡◌, ◌≢◌, ℕ, ◌+◌, ◌<◌, ◌≤◌, Bool, true, false, not, ◌&&◌, List, [], length, get_or, replicate, set, Some, None, Option, sym, refl, ap, ◌∙◌, subst, ⊎_elim, arith, length-set}
 use lib.ListN.{length-replicate}
 use Rattle.std.specs.List.{slice_get}
-use Rattle.std.proofs.lemmas.List.{get_or-replicate, get_or_past}
+use Rattle.std.proofs.lemmas.List.{get_or-replicate, get_or-set_other, get_or-set_same, get_or_past}
 use Rattle.std.proofs.lemmas.List.Elements.{All-from_get_or}
 use Rattle.std.proofs.lemmas.Option.{slice_get_past, gets}
 use Rattle.std.proofs.lemmas.Grind.{common_steps}
@@ -64,6 +64,10 @@ row_from_reached ls s found marks store sound complete n few long marked = recor
       ∙ and_from (get_or found l false) (has is_load ls l) (complete l (chain_from_path ls attack.path (load_line (slice_get ls l) attack.load))) attack.load;
 }
 
+-- A number is another or not.
+at_or_not : {X : Type 0} (s n : ℕ) → (s ≡ n → X) → (s ≢ n → X) → X
+at_or_not s n same apart = ⊎_elim (λ less. apart (λ is. omega (arith, is))) (λ more. ⊎_elim (λ less. apart (λ is. omega (arith, is))) (λ back. same (omega arith)) (cases_lt n s)) (cases_lt s n)
+
 -- A row with no mark is right for a line that is no store.
 pub row_of_none : (ls : List Line) (s : ℕ) (marks : List Bool) → has is_store ls s ≡ false → ((l : ℕ) → get_or marks l false ≡ false) → RightRow ls s marks
 row_of_none ls s marks none blank = record { only = λ l marked. grind arith; all = λ l attack. grind arith }
@@ -71,12 +75,43 @@ row_of_none ls s marks none blank = record { only = λ l marked. grind arith; al
 pub blank_row : (n l : ℕ) → get_or (replicate n false) l false ≡ false
 blank_row n l = grind (arith, common_steps, get_or-replicate, get_or_past, length-replicate)
 
--- A table with a right row for each line is right.
-pub table_from_rows : (ls : List Line) (rows : List (List Bool)) (n : ℕ) → length ls ≤ n → length rows ≡ n → ((s : ℕ) → s < n → Long (get_or rows s []) × RightRow ls s (get_or rows s [])) → RightTable ls rows
-table_from_rows ls rows n few many made = record {
-  long = All-from_get_or Long rows [] (λ s below. (made s (omega arith)).0);
+-- A table in the course of being filled: its first n rows are right, and the later ones have no mark.
+pub record Filled (ls : List Line) (rows : List (List Bool)) (n : ℕ) : Type 0 where
+  pub many : length rows ≡ 128
+  pub long : (s : ℕ) → s < 128 → Long (get_or rows s [])
+  pub right : (s : ℕ) → s < n → RightRow ls s (get_or rows s [])
+  pub blank : (s l : ℕ) → n ≤ s → get_or (get_or rows s []) l false ≡ false
+
+pub filled_none : (ls : List Line) (n : ℕ) → n ≡ 0 → Filled ls (replicate 128 (replicate 128 false)) n
+filled_none ls n none = record {
+  many = length-replicate 128 (replicate 128 false);
+  long = λ s below. ap length (get_or-replicate 128 s (replicate 128 false) [] below) ∙ length-replicate 128 false;
+  right = λ s below. absurd (omega arith);
+  blank = λ s l past.
+      ⊎_elim
+      (λ below. ap (λ row. get_or row l false) (get_or-replicate 128 s (replicate 128 false) [] below) ∙ blank_row 128 l)
+      (λ past. ap (λ row. get_or row l false) (get_or_past (replicate 128 (replicate 128 false)) s [] (omega (arith, length-replicate 128 (replicate 128 false)))))
+      (cases_lt s 128);
+}
+
+pub filled_more : (ls : List Line) (rows : List (List Bool)) (n : ℕ) (row : List Bool) → n < 128 → Long row → RightRow ls n row → Filled ls rows n → Filled ls (set rows n row) (n + 1)
+filled_more ls rows n row within long right so_far =
+    let here : get_or (set rows n row) n [] ≡ row = get_or-set_same rows n row [] (omega (arith, so_far.many)) in
+    let other : (s : ℕ) → s ≢ n → get_or (set rows n row) s [] ≡ get_or rows s [] = λ s apart. get_or-set_other rows n s row [] apart in
+    record {
+      many = length-set rows n row ∙ so_far.many;
+      long = λ s below. at_or_not s n (λ is. subst (λ k. Long (get_or (set rows n row) k [])) (sym is) (subst Long (sym here) long)) (λ apart. subst Long (sym (other s apart)) (so_far.long s below));
+      right = λ s below.
+          at_or_not s n (λ is. subst (λ k. RightRow ls k (get_or (set rows n row) k [])) (sym is) (subst (RightRow ls n) (sym here) right))
+          (λ apart. subst (RightRow ls s) (sym (other s apart)) (so_far.right s (omega arith)));
+      blank = λ s l past. ap (λ r. get_or r l false) (other s (λ is. omega (arith, is))) ∙ so_far.blank s l (omega arith);
+    }
+
+pub table_filled : (ls : List Line) (rows : List (List Bool)) → Filled ls rows (length ls) → RightTable ls rows
+table_filled ls rows filled = record {
+  long = All-from_get_or Long rows [] (λ s below. filled.long s (omega (arith, filled.many)));
   right = λ s.
-      ⊎_elim (λ below. (made s below).1)
-      (λ past. row_of_none ls s (get_or rows s []) (ap (passes is_store) (slice_get_past ls s (omega arith))) (λ l. ap (λ row. get_or row l false) (get_or_past rows s [] (omega arith))))
-      (cases_lt s n);
+      ⊎_elim (filled.right s)
+      (λ past. row_of_none ls s (get_or rows s []) (ap (passes is_store) (slice_get_past ls s past)) (λ l. filled.blank s l past))
+      (cases_lt s (length ls));
 }

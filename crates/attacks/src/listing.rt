@@ -12,7 +12,7 @@ pub fn count_marks(table: &Table) -> usize
     table.iter().fold(0, |count, row| count + count_row(row))
 }
 
-// How many places of a row are marked: a sum, since it takes no branch at a place, as `filter` and `count` would.
+// How many places of a row are marked. A sum takes no branch at a place, as `filter` with `count` would.
 fn count_row(row: &[bool; 128]) -> usize
     ensures value { result ≡ length (row_pairs 0 row.now) }
     ensures bound { result ≤ 128 }
@@ -25,6 +25,7 @@ pub fn write_pairs(table: &Table, list: &mut [Pair])
     requires { length (table_pairs table.now) ≤ length list.old }
     ensures { list.new ≡ table_pairs table.now ++ drop (length (table_pairs table.now)) list.old }
 {
+    // A row with no mark is passed over whole.
     let rows = table.iter().enumerate();
     let pairs = rows.filter(|(_, row)| count_row(row) > 0).flat_map(|(store, row)| {
         let marks = row.iter().enumerate();

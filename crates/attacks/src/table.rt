@@ -10,16 +10,16 @@ use std::array;
 // A mark at each attack pair: a row for each store, a place in it for each load.
 pub type Table = [[bool; 128]; 128];
 
-// Marks every attack pair of the program.
+// Marks every attack pair of the program: row by row in its place, since a table that `array::from_fn` makes is moved whole
+// each time that it is handed on.
 pub fn attack_table(program: &Program) -> Table
     ensures { RightTable (lines_of program.now) result }
 {
-    array::from_fn(
-        |store|
-            ensures long { Long result }
-            ensures right { RightRow (lines_of program.entry.now) store result }
-        { row_of(program, store) },
-    )
+    let mut table = [[false; 128]; 128];
+    for store in 0..program.len() {
+        table[store] = row_of(program, store);
+    }
+    table
 }
 
 // Marks the loads that make an attack pair with that line: none, if it is no store.
