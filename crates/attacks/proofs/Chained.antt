@@ -7,7 +7,7 @@ use Rattle.std.proofs.lemmas.List.{get_or-replicate, get_or-set_other, get_or-se
 use Rattle.std.proofs.lemmas.List.Elements.{All-from_get_or}
 use Rattle.std.proofs.lemmas.Option.{slice_get_past, gets}
 use Rattle.std.proofs.lemmas.Grind.{common_steps}
-use Rattle.std.proofs.lemmas.Bool.{true≢false, and_parts, and_from, not-true, not_from_false, cases_lt, both_ways}
+use Rattle.std.proofs.lemmas.Bool.{cases_eq, true≢false, and_parts, and_from, not-true, not_from_false, cases_lt, both_ways}
 use Rattle.graph.specs.Chains.{Chain, edge, onward}
 use Rattle.program.specs.declared.forms.Instruction.{Instruction}
 use Rattle.program.specs.declared.forms.Instruction.TheVariants.{Load, Store, Fence, Compute, Assert}
@@ -64,10 +64,6 @@ row_from_reached ls s found marks store sound complete n few long marked = recor
       ∙ and_from (get_or found l false) (has is_load ls l) (complete l (chain_from_path ls attack.path (load_line (slice_get ls l) attack.load))) attack.load;
 }
 
--- A number is another or not.
-at_or_not : {X : Type 0} (s n : ℕ) → (s ≡ n → X) → (s ≢ n → X) → X
-at_or_not s n same apart = ⊎_elim (λ less. apart (λ is. omega (arith, is))) (λ more. ⊎_elim (λ less. apart (λ is. omega (arith, is))) (λ back. same (omega arith)) (cases_lt n s)) (cases_lt s n)
-
 -- A row with no mark is right for a line that is no store.
 pub row_of_none : (ls : List Line) (s : ℕ) (marks : List Bool) → has is_store ls s ≡ false → ((l : ℕ) → get_or marks l false ≡ false) → RightRow ls s marks
 row_of_none ls s marks none blank = record { only = λ l marked. grind arith; all = λ l attack. grind arith }
@@ -100,10 +96,12 @@ filled_more ls rows n row within long right so_far =
     let other : (s : ℕ) → s ≢ n → get_or (set rows n row) s [] ≡ get_or rows s [] = λ s apart. get_or-set_other rows n s row [] apart in
     record {
       many = length-set rows n row ∙ so_far.many;
-      long = λ s below. at_or_not s n (λ is. subst (λ k. Long (get_or (set rows n row) k [])) (sym is) (subst Long (sym here) long)) (λ apart. subst Long (sym (other s apart)) (so_far.long s below));
+      long = λ s below.
+          ⊎_elim (λ is. subst (λ k. Long (get_or (set rows n row) k [])) (sym is) (subst Long (sym here) long))
+          (λ apart. subst Long (sym (other s apart)) (so_far.long s below)) (cases_eq s n);
       right = λ s below.
-          at_or_not s n (λ is. subst (λ k. RightRow ls k (get_or (set rows n row) k [])) (sym is) (subst (RightRow ls n) (sym here) right))
-          (λ apart. subst (RightRow ls s) (sym (other s apart)) (so_far.right s (omega arith)));
+          ⊎_elim (λ is. subst (λ k. RightRow ls k (get_or (set rows n row) k [])) (sym is) (subst (RightRow ls n) (sym here) right))
+          (λ apart. subst (RightRow ls s) (sym (other s apart)) (so_far.right s (omega arith))) (cases_eq s n);
       blank = λ s l past. ap (λ r. get_or r l false) (other s (λ is. omega (arith, is))) ∙ so_far.blank s l (omega arith);
     }
 

@@ -4,7 +4,7 @@ use Rattle.std.specs.List.{enumerate_from, filter, flat_map, sum_by}
 use Rattle.std.specs.Int.{from_bool}
 use Rattle.std.proofs.lemmas.Bool.Decides.{nat_tests}
 use Rattle.std.proofs.lemmas.Iterator.{YieldsList}
-use Rattle.std.proofs.lemmas.List.{take_all}
+use Rattle.std.proofs.lemmas.List.{nil_from_length, take_all}
 use Rattle.std.proofs.lemmas.List.FromFn.{get_or-enumerate_from, length-enumerate_from}
 use Rattle.std.proofs.lemmas.List.Sums.{sum_by-cons}
 use Rattle.attacks.specs.declared.pair.Pair.{Pair}
@@ -45,15 +45,11 @@ table_count rows = rows_from 0 rows
 abbrev pub has_marks : ℕ × List Bool → Bool
 has_marks r = ltb 0 (length (row_pairs 0 r.1))
 
-empty : (ps : List Pair) → length ps ≡ 0 → ps ≡ []
-empty [] none = refl
-empty (p ∷ ps) none = absurd (omega (arith, none))
-
 left_out_if : (b : Bool) (r : ℕ × List Bool) (rs : List (ℕ × List Bool)) → has_marks r ≡ b → flat_map (λ r. row_pairs r.0 r.1) (filter has_marks rs) ≡ flat_map (λ r. row_pairs r.0 r.1) rs → flat_map (λ r. row_pairs r.0 r.1) (cond b (r ∷ filter has_marks rs) (filter has_marks rs)) ≡ row_pairs r.0 r.1 ++ flat_map (λ r. row_pairs r.0 r.1) rs
 left_out_if true r rs some same = ap (λ ps. row_pairs r.0 r.1 ++ ps) same
 left_out_if false r rs none same =
     let few : length (row_pairs 0 r.1) ≡ 0 = grind (arith, nat_tests) in
-    same ∙ ap (λ ps. ps ++ flat_map (λ r. row_pairs r.0 r.1) rs) (sym (empty (row_pairs r.0 r.1) (omega (arith, few, row_count 0 r.1, row_count r.0 r.1))))
+    same ∙ ap (λ ps. ps ++ flat_map (λ r. row_pairs r.0 r.1) rs) (sym (nil_from_length (row_pairs r.0 r.1) (omega (arith, few, row_count 0 r.1, row_count r.0 r.1))))
 
 left_out : (rs : List (ℕ × List Bool)) → flat_map (λ r. row_pairs r.0 r.1) (filter has_marks rs) ≡ flat_map (λ r. row_pairs r.0 r.1) rs
 left_out [] = refl
