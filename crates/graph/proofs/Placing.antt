@@ -1,11 +1,12 @@
 -- How the order grows by one node, why the node that is placed is the right one, and what stands when none is ready.
-use Rattle.std.proofs.Common.{◌≡◌, ℕ, ◌+◌, ◌<◌, ◌≤◌, Bool, true, false, not, List, [], ◌∷◌, ◌++◌, Some, None, length, get_or, take, drop, set, replicate, sym, refl, ap, ◌∙◌, subst, inl, inr, arith, below_more}
+use Rattle.std.proofs.Common.{◌≡◌, ℕ, ◌+◌, ◌<◌, ◌≤◌, Bool, true, false, not, List, [], ◌∷◌, ◌++◌, Option, Some, None, MatchOption, cond, length, get_or, take, drop, set, replicate, sym, refl, ap, ◌∙◌, subst, inl, inr, arith, below_more}
 use Rattle.std.specs.List.{Contains, position, position_or_len}
 use Rattle.std.proofs.lemmas.List.Elements.{Contains-append_left, Contains-push, Contains-push_cases}
 use Rattle.std.proofs.lemmas.List.{length-set, length-append, length-map, length_push, map-append, replicate_more, get_or-set_same, get_or-set_other, get_or_append_left, get_or_push, get_or_past, length-replicate, take-append-le, take_at, drop_at, map-set}
 use Rattle.std.proofs.lemmas.List.Quantifiers.{position-Some}
-use Rattle.std.proofs.lemmas.List.Sums.{fails_before_first}
-use Rattle.std.proofs.lemmas.Bool.{cases_eq, cases_lt, cases_Bool, both_ways, lt-ltb, cond-true, not-false, not-true}
+use Rattle.std.proofs.lemmas.List.Sums.{fails_before_first, position_or_len_is}
+use Rattle.std.proofs.Math.Dec.{ltb}
+use Rattle.std.proofs.lemmas.Bool.{cases_eq, cases_lt, cases_Bool, both_ways, lt-ltb, le-ltb, cond-true, cond-false, not-false, not-true}
 use Rattle.graph.specs.declared.ordering.Sorting.{Sorting}
 use Rattle.graph.specs.declared.ordering.Standing.{Standing}
 use Rattle.graph.specs.declared.ordering.Standing.TheVariants.{Placed, Ready, Behind}
@@ -276,6 +277,31 @@ copied_front P n old ns many p = record {
   front = subst P (sym (take_at ns (drop n old) n many)) p;
   later = drop_at ns (drop n old) n many;
 }
+
+-- The lowest of the nodes that have no mark is the first that is not placed, and where each has one, all are placed.
+pub lowest_unmarked : (standings : List Standing) (end : ℕ) (found : Option ℕ) → end ≡ length standings
+    → MatchOption found ((u : ℕ) → 0 ≤ u → u < end → u < length standings → get_or (marks standings) u false ≡ true)
+    (λ b. (0 ≤ b) × (b < end) × (get_or (marks standings) b false ≡ false)
+    × ((u : ℕ) → 0 ≤ u → u < b → u < length standings → get_or (marks standings) u false ≡ true))
+    → found ≡ position (λ x. not (is_placed x)) standings
+lowest_unmarked standings end None e none =
+    sym (ap (λ i. cond (ltb i (length standings)) (Some i) None) first ∙ cond-false _ _ _ (le-ltb (length standings) (length standings) (omega arith)))
+  where
+    first : position_or_len (λ x. not (is_placed x)) standings ≡ length standings
+    first =
+        position_or_len_is (λ x. not (is_placed x)) standings (length standings) Placed (omega arith)
+        (λ k l. ap not (sym (mark_of standings k l) ∙ none k (omega arith) (omega (arith, e)) l)) (λ l. absurd (omega arith))
+lowest_unmarked standings end (Some b) e some =
+    sym (ap (λ i. cond (ltb i (length standings)) (Some i) None) first ∙ cond-true _ _ _ (lt-ltb b (length standings) within))
+  where
+    within : b < length standings
+    within = omega (arith, e, some.1)
+
+    first : position_or_len (λ x. not (is_placed x)) standings ≡ b
+    first =
+        position_or_len_is (λ x. not (is_placed x)) standings b Placed (omega arith)
+        (λ k l. ap not (sym (mark_of standings k (omega arith)) ∙ some.3 k (omega arith) l (omega arith)))
+        (λ l. ap not (sym (mark_of standings b within) ∙ some.2))
 
 -- The node that is found to be not placed is not marked.
 pub found_unplaced : (standings : List Standing) (v : ℕ) → position (λ x. not (is_placed x)) standings ≡ Some v → Unplaced standings v

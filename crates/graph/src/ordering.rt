@@ -174,9 +174,8 @@ impl Sorting {
     fn lowest_unplaced(&self) -> Option<usize>
         ensures { result ≡ position (λ x. not (is_placed x)) self.now.standings.items }
     {
-        self.standings
-            .iter()
-            .position(|standing| *standing != Standing::Placed)
+        let mut nodes = 0..self.standings.len();
+        nodes.find(|node| !self.is_placed(*node))
     }
 }
 
