@@ -1,11 +1,10 @@
 -- How the order grows by one node, why the node that is placed is the right one, and what stands when none is ready.
-use Rattle.std.proofs.Common.{◌≡◌, ℕ, ◌+◌, ◌<◌, ◌≤◌, Bool, true, false, not, List, [], ◌∷◌, ◌++◌, Option, Some, None, MatchOption, cond, length, get_or, take, drop, set, replicate, sym, refl, ap, ◌∙◌, subst, inl, inr, arith, below_more}
+use Rattle.std.proofs.Common.{◌≡◌, ℕ, ◌+◌, ◌<◌, ◌≤◌, Bool, true, false, not, List, [], ◌∷◌, ◌++◌, Option, Some, None, MatchOption, length, get_or, take, drop, set, replicate, sym, refl, ap, ◌∙◌, subst, inl, inr, arith, below_more}
 use Rattle.std.specs.List.{Contains, position, position_or_len}
 use Rattle.std.proofs.lemmas.List.Elements.{Contains-append_left, Contains-push, Contains-push_cases}
 use Rattle.std.proofs.lemmas.List.{length-set, length-append, length-map, length_push, map-append, replicate_more, get_or-set_same, get_or-set_other, get_or_append_left, get_or_push, get_or_past, length-replicate, take-append-le, take_at, drop_at, map-set}
 use Rattle.std.proofs.lemmas.List.Quantifiers.{position-Some}
 use Rattle.std.proofs.lemmas.List.Sums.{fails_before_first, position_or_len_is}
-use Rattle.std.proofs.Math.Dec.{ltb}
 use Rattle.std.proofs.lemmas.Bool.{cases_eq, cases_lt, cases_Bool, both_ways, lt-ltb, le-ltb, cond-true, cond-false, not-false, not-true}
 use Rattle.graph.specs.declared.ordering.Sorting.{Sorting}
 use Rattle.graph.specs.declared.ordering.Standing.{Standing}
@@ -242,6 +241,18 @@ none_passes p xs k d none l =
       | inr h ↦ fails_before_first p xs k d (omega arith)
     ]
 
+-- The place that passes a test, while none before it does, is the first; and there is none where no element passes.
+first_passes : {X : Type 0} (p : X → Bool) (xs : List X) (d : X) (found : Option ℕ)
+    → MatchOption found ((k : ℕ) → k < length xs → p (get_or xs k d) ≡ false)
+    (λ i. (i < length xs) × (p (get_or xs i d) ≡ true) × ((k : ℕ) → k < i → p (get_or xs k d) ≡ false))
+    → found ≡ position p xs
+first_passes p xs d None none =
+    let first : position_or_len p xs ≡ length xs = position_or_len_is p xs (length xs) d (omega arith) none (λ l. absurd (omega arith)) in
+    sym (cond-false _ _ _ (le-ltb (position_or_len p xs) (length xs) (omega (arith, first))))
+first_passes p xs d (Some i) some =
+    let first : position_or_len p xs ≡ i = position_or_len_is p xs i d (omega (arith, some.0)) some.2 (λ l. some.1) in
+    sym (cond-true _ _ _ (lt-ltb (position_or_len p xs) (length xs) (omega (arith, first, some.0))) ∙ ap Some first)
+
 -- Where the search finds no node that is ready, none is.
 pub none_ready : (standings : List Standing) → position is_ready standings ≡ None → NoneReady standings
 none_ready standings none v e =
@@ -278,30 +289,24 @@ copied_front P n old ns many p = record {
   later = drop_at ns (drop n old) n many;
 }
 
--- The lowest of the nodes that have no mark is the first that is not placed, and where each has one, all are placed.
+-- A search of the nodes by number for the lowest without a mark finds the first that is not placed.
 pub lowest_unmarked : (standings : List Standing) (end : ℕ) (found : Option ℕ) → end ≡ length standings
     → MatchOption found ((u : ℕ) → 0 ≤ u → u < end → u < length standings → get_or (marks standings) u false ≡ true)
     (λ b. (0 ≤ b) × (b < end) × (get_or (marks standings) b false ≡ false)
     × ((u : ℕ) → 0 ≤ u → u < b → u < length standings → get_or (marks standings) u false ≡ true))
     → found ≡ position (λ x. not (is_placed x)) standings
 lowest_unmarked standings end None e none =
-    sym (ap (λ i. cond (ltb i (length standings)) (Some i) None) first ∙ cond-false _ _ _ (le-ltb (length standings) (length standings) (omega arith)))
-  where
-    first : position_or_len (λ x. not (is_placed x)) standings ≡ length standings
-    first =
-        position_or_len_is (λ x. not (is_placed x)) standings (length standings) Placed (omega arith)
-        (λ k l. ap not (sym (mark_of standings k l) ∙ none k (omega arith) (omega (arith, e)) l)) (λ l. absurd (omega arith))
+    first_passes (λ x. not (is_placed x)) standings Placed None
+    (λ k l. ap not (sym (mark_of standings k l) ∙ none k (omega arith) (omega (arith, e)) l))
 lowest_unmarked standings end (Some b) e some =
-    sym (ap (λ i. cond (ltb i (length standings)) (Some i) None) first ∙ cond-true _ _ _ (lt-ltb b (length standings) within))
+    first_passes (λ x. not (is_placed x)) standings Placed (Some b) (
+      within,
+      ap not (sym (mark_of standings b within) ∙ some.2),
+      λ k l. ap not (sym (mark_of standings k (omega arith)) ∙ some.3 k (omega arith) l (omega arith)),
+    )
   where
     within : b < length standings
     within = omega (arith, e, some.1)
-
-    first : position_or_len (λ x. not (is_placed x)) standings ≡ b
-    first =
-        position_or_len_is (λ x. not (is_placed x)) standings b Placed (omega arith)
-        (λ k l. ap not (sym (mark_of standings k (omega arith)) ∙ some.3 k (omega arith) l (omega arith)))
-        (λ l. ap not (sym (mark_of standings b within) ∙ some.2))
 
 -- The node that is found to be not placed is not marked.
 pub found_unplaced : (standings : List Standing) (v : ℕ) → position (λ x. not (is_placed x)) standings ≡ Some v → Unplaced standings v

@@ -170,7 +170,7 @@ impl Sorting {
             .position(|standing| *standing == Standing::Ready)
     }
 
-    // The lowest node that is not placed.
+    // The lowest node that is not placed. By number, as the search for a blocker asks.
     fn lowest_unplaced(&self) -> Option<usize>
         ensures { result ≡ position (λ x. not (is_placed x)) self.now.standings.items }
     {
