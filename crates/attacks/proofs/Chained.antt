@@ -71,6 +71,16 @@ row_of_none ls s marks none blank = record { only = λ l marked. grind arith; al
 pub blank_row : (n l : ℕ) → get_or (replicate n false) l false ≡ false
 blank_row n l = grind (arith, common_steps, get_or-replicate, get_or_past, length-replicate)
 
+-- A table with a right row for each line is right.
+pub table_from_rows : (ls : List Line) (rows : List (List Bool)) (n : ℕ) → length ls ≤ n → length rows ≡ n → ((s : ℕ) → s < n → Long (get_or rows s []) × RightRow ls s (get_or rows s [])) → RightTable ls rows
+table_from_rows ls rows n few many made = record {
+  long = All-from_get_or Long rows [] (λ s below. (made s (omega arith)).0);
+  right = λ s.
+      ⊎_elim (λ below. (made s below).1)
+      (λ past. row_of_none ls s (get_or rows s []) (ap (passes is_store) (slice_get_past ls s (omega arith))) (λ l. ap (λ row. get_or row l false) (get_or_past rows s [] (omega arith))))
+      (cases_lt s n);
+}
+
 -- A table in the course of being filled: its first n rows are right, and the later ones have no mark.
 pub record Filled (ls : List Line) (rows : List (List Bool)) (n : ℕ) : Type 0 where
   pub many : length rows ≡ 128

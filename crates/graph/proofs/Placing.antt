@@ -145,6 +145,13 @@ put_begun joins size s t v begun next longer same blocked = record {
     last : Next joins size (take (length before) (before ++ v ∷ [])) (get_or (before ++ v ∷ []) (length before) 0)
     last = next_same joins size _ _ _ _ (take_at before (v ∷ []) (length before) refl) (get_or_push before v 0 (length before) refl) next
 
+-- Before a node is placed, every node may stand behind the first.
+pub nothing_movable : (joins : ℕ → ℕ → Bool) (size : ℕ) (placed : List Bool) (v : ℕ) (x : Standing) → x ≡ Behind 0 → Movable joins size placed 0 v x
+nothing_movable joins size placed v x e = record {
+  there = λ e' u below leads. absurd (omega arith);
+  elsewhere = λ ne. absurd (ne e);
+}
+
 -- The standings of the first n nodes before any is placed.
 pub record First (joins : ℕ → ℕ → Bool) (size n : ℕ) (standings : List Standing) : Type 0 where
   pub many : length standings ≡ n
