@@ -68,16 +68,20 @@ row_from_reached ls s found marks store sound complete n few long marked = recor
 pub row_of_none : (ls : List Line) (s : ℕ) (marks : List Bool) → has is_store ls s ≡ false → ((l : ℕ) → get_or marks l false ≡ false) → RightRow ls s marks
 row_of_none ls s marks none blank = record { only = λ l marked. grind arith; all = λ l attack. grind arith }
 
+-- So it is for a number that no line has.
+row_past : (ls : List Line) (s : ℕ) (marks : List Bool) → length ls ≤ s → ((l : ℕ) → get_or marks l false ≡ false) → RightRow ls s marks
+row_past ls s marks past = row_of_none ls s marks (ap (passes is_store) (slice_get_past ls s past))
+
 pub blank_row : (n l : ℕ) → get_or (replicate n false) l false ≡ false
 blank_row n l = grind (arith, common_steps, get_or-replicate, get_or_past, length-replicate)
 
--- A table with a right row for each line is right.
+-- A table with a right row for each line is right, however many rows it has. No proof here needs it: `table_filled` is of 128 rows.
 pub table_from_rows : (ls : List Line) (rows : List (List Bool)) (n : ℕ) → length ls ≤ n → length rows ≡ n → ((s : ℕ) → s < n → Long (get_or rows s []) × RightRow ls s (get_or rows s [])) → RightTable ls rows
 table_from_rows ls rows n few many made = record {
   long = All-from_get_or Long rows [] (λ s below. (made s (omega arith)).0);
   right = λ s.
       ⊎_elim (λ below. (made s below).1)
-      (λ past. row_of_none ls s (get_or rows s []) (ap (passes is_store) (slice_get_past ls s (omega arith))) (λ l. ap (λ row. get_or row l false) (get_or_past rows s [] (omega arith))))
+      (λ past. row_past ls s (get_or rows s []) (omega arith) (λ l. ap (λ row. get_or row l false) (get_or_past rows s [] (omega arith))))
       (cases_lt s n);
 }
 
@@ -120,6 +124,6 @@ table_filled ls rows filled = record {
   long = All-from_get_or Long rows [] (λ s below. filled.long s (omega (arith, filled.many)));
   right = λ s.
       ⊎_elim (filled.right s)
-      (λ past. row_of_none ls s (get_or rows s []) (ap (passes is_store) (slice_get_past ls s past)) (λ l. filled.blank s l past))
+      (λ past. row_past ls s (get_or rows s []) past (λ l. filled.blank s l past))
       (cases_lt s (length ls));
 }

@@ -145,7 +145,7 @@ put_begun joins size s t v begun next longer same blocked = record {
     last : Next joins size (take (length before) (before ++ v ∷ [])) (get_or (before ++ v ∷ []) (length before) 0)
     last = next_same joins size _ _ _ _ (take_at before (v ∷ []) (length before) refl) (get_or_push before v 0 (length before) refl) next
 
--- Before a node is placed, every node may stand behind the first.
+-- No node comes before the first: one that stands behind it may be moved up from there, whatever is placed. No proof here needs it.
 pub nothing_movable : (joins : ℕ → ℕ → Bool) (size : ℕ) (placed : List Bool) (v : ℕ) (x : Standing) → x ≡ Behind 0 → Movable joins size placed 0 v x
 nothing_movable joins size placed v x e = record {
   there = λ e' u below leads. absurd (omega arith);
